@@ -1,0 +1,4 @@
+pub mod Limits
+pub mod Circuit
+pub mod Terminal
+pub mod Sound
