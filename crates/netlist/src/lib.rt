@@ -1,0 +1,12 @@
+// A circuit block: its elements, its clock domains, the tables that hold them, and the changes of one element.
+mod domains;
+mod elements;
+pub mod limits;
+mod table;
+
+pub use domains::DomainSet;
+pub use elements::FlipFlop;
+pub use elements::Gate;
+pub use elements::Place;
+pub use elements::Terminal;
+pub use elements::Wire;
