@@ -33,3 +33,16 @@ pub record Circuit : Type 0 where
 -- one part, one domain of skew 0, nothing else
 abbrev pub empty : Circuit
 empty = record { parts = 1; skews = 0 ∷ []; flops = []; gates = []; wires = [] }
+
+-- a circuit with one of its parts replaced
+abbrev pub with-domains : Circuit → ℕ → List ℕ → Circuit
+with-domains c parts skews = record { parts = parts; skews = skews; flops = c .flops; gates = c .gates; wires = c .wires }
+
+abbrev pub with-flops : Circuit → List FlipFlop → Circuit
+with-flops c flops = record { parts = c .parts; skews = c .skews; flops = flops; gates = c .gates; wires = c .wires }
+
+abbrev pub with-gates : Circuit → List Gate → Circuit
+with-gates c gates = record { parts = c .parts; skews = c .skews; flops = c .flops; gates = gates; wires = c .wires }
+
+abbrev pub with-wires : Circuit → List Wire → Circuit
+with-wires c wires = record { parts = c .parts; skews = c .skews; flops = c .flops; gates = c .gates; wires = wires }

@@ -5,6 +5,8 @@ ghost use Prim.Native.Nat.{_<_, _≤_};
 ghost use Rattle.circuit.specs.Limits.{delay-end};
 ghost use Rattle.circuit.specs.Sound.{hold-fits};
 
+mod figures;
+
 // A flip-flop with its setup time and its signed hold time.
 #[derive(Clone, Copy, PartialEq, Eq, Debug)]
 pub struct FlipFlop {

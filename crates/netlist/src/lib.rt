@@ -1,12 +1,17 @@
 // A circuit block: its elements, its clock domains, the tables that hold them, and the changes of one element.
 mod domains;
+mod draft;
 mod elements;
+mod faults;
 pub mod limits;
 mod table;
 
 pub use domains::DomainSet;
+pub use draft::Draft;
 pub use elements::FlipFlop;
 pub use elements::Gate;
 pub use elements::Place;
 pub use elements::Terminal;
 pub use elements::Wire;
+pub use faults::BlockFault;
+pub use faults::BlockFaultFromAlloc;

@@ -1,0 +1,123 @@
+// How a draft takes its elements, one by one.
+ghost use mathlib.Core.Path.{_≡_};
+ghost use mathlib.Core.Bool.{true, false};
+ghost use mathlib.Core.List.{map};
+ghost use lib.ListN.{length};
+ghost use Rattle.std.specs.Results.{Cases};
+ghost use Rattle.std.specs.declared.option.Option.the-variants.{Some, None};
+ghost use Rattle.std.specs.Of.Vec.{vec-items};
+ghost use Rattle.circuit.specs.Circuit.{empty, with-domains};
+ghost use Rattle.circuit.specs.Sound.{forward};
+ghost use Rattle.circuit.specs.Terminal.{place, known};
+ghost use Rattle.netlist.specs.Figures.{place-of, wire-of, terminal-of};
+ghost use Rattle.netlist.specs.Domains.{skews-of};
+ghost use Rattle.netlist.specs.Growth.{flop-breach, gate-breach, link-breach, wire-breach, link, more-flops, more-gates, more-wires, Grown};
+ghost use Rattle.netlist.specs.Drafted.{drafted};
+use crate::domains::DomainSet;
+use crate::draft::Draft;
+use crate::elements::FlipFlop;
+use crate::elements::Gate;
+use crate::elements::Place;
+use crate::elements::Terminal;
+use crate::elements::Wire;
+use crate::faults::BlockFault;
+use crate::faults::BlockFaultFromAlloc;
+use crate::limits::MOST_FLIP_FLOPS;
+use crate::limits::MOST_GATES;
+use crate::limits::MOST_WIRES;
+use crate::table::Table;
+use std::alloc::Global;
+
+const FLIP_FLOP_CLASS: u8 = 0;
+const GATE_CLASS: u8 = 1;
+
+// A wire between gates starts at the smaller number; any other may run as it likes.
+fn runs_forward(start: Place, end: Place) -> bool
+    ensures { λ r. ⌜ r ≡ forward (place-of start) (place-of end) ⌝ }
+{
+    match (start, end) {
+        (Place::Gate(m), Place::Gate(n)) => m < n,
+        (Place::Gate(_), Place::FlipFlop(_)) => true,
+        (Place::FlipFlop(_), _) => true,
+    }
+}
+
+impl Draft {
+    // The empty block: one part, one domain of skew 0, nothing else.
+    pub fn new(heap: Global) -> Draft
+        ensures { λ r. ⌜ drafted r ≡ empty ⌝ }
+    {
+        Draft {
+            domains: DomainSet::single(),
+            flops: Table::new(heap),
+            gates: Table::new(heap),
+            wires: Table::new(heap),
+        }
+    }
+
+    pub fn set_domains(&mut self, domains: DomainSet)
+        ensures { λ _. ⌜ drafted (now (self .exit)) ≡ with-domains (drafted (now (self .entry))) (domains .parts) (skews-of domains) ⌝ }
+    {
+        self.domains = domains;
+    }
+
+    pub fn add_flip_flop(&mut self, setup: u16, hold: i16) -> Result<(), BlockFault>
+        ensures { λ r. ⌜ Grown r (flop-breach (drafted (now (self .entry)))) (drafted (now (self .entry))) (more-flops (drafted (now (self .entry))) (record { setup = setup; hold = hold })) (drafted (now (self .exit))) ⌝ }
+    {
+        if self.flip_flop_count() >= MOST_FLIP_FLOPS {
+            return Err(BlockFault::Surplus);
+        }
+        self.flops.push(FlipFlop::new(setup, hold))?;
+        Ok(())
+    }
+
+    pub fn add_gate(&mut self, smaller: u16, larger: u16) -> Result<(), BlockFault>
+        ensures { λ r. ⌜ Grown r (gate-breach (drafted (now (self .entry))) (record { smaller = smaller; larger = larger })) (drafted (now (self .entry))) (more-gates (drafted (now (self .entry))) (record { smaller = smaller; larger = larger })) (drafted (now (self .exit))) ⌝ }
+    {
+        if self.gate_count() >= MOST_GATES {
+            return Err(BlockFault::Surplus);
+        }
+        let Some(gate) = Gate::new(smaller, larger) else {
+            return Err(BlockFault::Delays);
+        };
+        self.gates.push(gate)?;
+        Ok(())
+    }
+
+    // The place that a terminal names.
+    fn place(&self, terminal: Terminal) -> Result<Place, BlockFault>
+        ensures { λ r. ⌜ Cases r (λ p. (known (length (drafted (now (self .entry)) .flops)) (length (drafted (now (self .entry)) .gates)) (terminal-of terminal) ≡ true) × (place-of p ≡ place (terminal-of terminal))) (λ e. (known (length (drafted (now (self .entry)) .flops)) (length (drafted (now (self .entry)) .gates)) (terminal-of terminal) ≡ false) × (e ≡ BlockFault.Absent)) ⌝ }
+    {
+        let number = terminal.number as usize;
+        if terminal.class == FLIP_FLOP_CLASS && number < self.flip_flop_count() {
+            return Ok(Place::FlipFlop(terminal.number));
+        }
+        if terminal.class == GATE_CLASS && number < self.gate_count() {
+            return Ok(Place::Gate(terminal.number));
+        }
+        Err(BlockFault::Absent)
+    }
+
+    // A wire between the places that two terminals name.
+    fn link(&self, start: Terminal, end: Terminal, delay: u16) -> Result<Wire, BlockFault>
+        ensures { λ r. ⌜ Cases r (λ w. (link-breach (drafted (now (self .entry))) (terminal-of start) (terminal-of end) ≡ None) × (wire-of w ≡ link (terminal-of start) (terminal-of end) delay)) (λ e. link-breach (drafted (now (self .entry))) (terminal-of start) (terminal-of end) ≡ Some e) ⌝ }
+    {
+        let from = self.place(start)?;
+        let to = self.place(end)?;
+        if !runs_forward(from, to) {
+            return Err(BlockFault::Backward);
+        }
+        Ok(Wire::new(from, to, delay))
+    }
+
+    pub fn add_wire(&mut self, start: Terminal, end: Terminal, delay: u16) -> Result<(), BlockFault>
+        ensures { λ r. ⌜ Grown r (wire-breach (drafted (now (self .entry))) (terminal-of start) (terminal-of end)) (drafted (now (self .entry))) (more-wires (drafted (now (self .entry))) (link (terminal-of start) (terminal-of end) delay)) (drafted (now (self .exit))) ⌝ }
+    {
+        if self.wire_count() >= MOST_WIRES {
+            return Err(BlockFault::Surplus);
+        }
+        let wire = self.link(start, end, delay)?;
+        self.wires.push(wire)?;
+        Ok(())
+    }
+}

@@ -1,0 +1,31 @@
+// Why a block cannot take what it is given.
+ghost use mathlib.Core.Path.{_≡_};
+ghost use Rattle.netlist.specs.declared.faults.BlockFault.the-variants.{Memory};
+use std::alloc::AllocError;
+
+// The fault of a block that grows.
+#[derive(Clone, Copy, PartialEq, Eq, Debug)]
+pub enum BlockFault {
+    // a domain set outside its limits
+    Domains,
+    // one flip-flop, gate or wire too many
+    Surplus,
+    // a smaller delay above the larger one
+    Delays,
+    // a wire that names a class or number that is not there
+    Absent,
+    // a wire between gates that does not start at the smaller number
+    Backward,
+    // a gate with no wire in or no wire out
+    Open,
+    // no memory
+    Memory,
+}
+
+pub impl From<AllocError> for BlockFault as BlockFaultFromAlloc {
+    ghost converts = { λ _ r. r ≡ Memory };
+
+    fn from(_e: AllocError) -> BlockFault {
+        BlockFault::Memory
+    }
+}
