@@ -1,12 +1,12 @@
 -- What passes a test at every element.
 use mathlib.Core.Path.{_≡_, refl, sym, _∙_, ap}
-use mathlib.Core.Bool.{Bool, true, false, _&&_, cond}
+use mathlib.Core.Bool.{Bool, true, false, _&&_, _||_}
 use mathlib.Core.List.{List, [], _∷_, _++_, map}
 use Prim.Native.Nat.{ℕ, zero, suc, _<_}
 use lib.ListN.{length, getD, set}
 use native.Mathlib.Omega.{arith}
 use Rattle.std.proofs.shelf.Tests.{and-parts, and-from}
-use Rattle.circuit.specs.Sound.{every}
+use Rattle.circuit.specs.Sound.{every, any}
 
 pub every-push : {X : Type 0} (test : X → Bool) (xs : List X) (x : X) → every test xs ≡ true → test x ≡ true → every test (xs ++ (x ∷ [])) ≡ true
 every-push test [] x h p = and-from (test x) true p refl
@@ -41,3 +41,16 @@ every-map f test (y ∷ ys) = ap (λ b. test (f y) && b) (every-map f test ys)
 pub every-all : {X : Type 0} (test : X → Bool) → ((x : X) → test x ≡ true) → (xs : List X) → every test xs ≡ true
 every-all test w [] = refl
 every-all test w (x ∷ xs) = and-from (test x) (every test xs) (w x) (every-all test w xs)
+
+or-false : (a : Bool) → (a || false) ≡ (false || a)
+or-false true = refl
+or-false false = refl
+
+or-assoc : (a b c : Bool) → ((a || b) || c) ≡ (a || (b || c))
+or-assoc true b c = refl
+or-assoc false b c = refl
+
+-- a test at one element more
+pub any-push : {X : Type 0} (test : X → Bool) (xs : List X) (x : X) → any test (xs ++ (x ∷ [])) ≡ (any test xs || test x)
+any-push test [] x = or-false (test x)
+any-push test (y ∷ ys) x = ap (λ b. test y || b) (any-push test ys x) ∙ sym (or-assoc (test y) (any test ys) (test x))

@@ -1,4 +1,5 @@
 pub mod Figures
 pub mod Domains
 pub mod Growth
+pub mod Changes
 pub mod Drafted

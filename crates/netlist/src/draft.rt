@@ -14,6 +14,8 @@ use crate::elements::Gate;
 use crate::elements::Wire;
 use crate::table::Table;
 
+mod change;
+mod cover;
 mod grow;
 mod read;
 

@@ -29,3 +29,12 @@ pub impl From<AllocError> for BlockFault as BlockFaultFromAlloc {
         BlockFault::Memory
     }
 }
+
+// Why a change of one element is refused.
+#[derive(Clone, Copy, PartialEq, Eq, Debug)]
+pub enum ChangeFault {
+    // no element has this number
+    Missing,
+    // a smaller delay above the larger one
+    Delays,
+}

@@ -47,6 +47,12 @@ impl<T: Copy> Table<T> {
         }
     }
 
+    pub fn as_slice(&self) -> &[T]
+        ensures { λ r. ⌜ now r ≡ vec-items (now (self .entry) .items) ⌝ }
+    {
+        self.items.as_slice()
+    }
+
     // One element more, or no memory for it.
     pub fn push(&mut self, item: T) -> Result<(), AllocError>
         ensures { λ r. ⌜ vec-items (now (self .exit) .items) ≡ cond (isOk r) (vec-items (now (self .entry) .items) ++ (item ∷ [])) (vec-items (now (self .entry) .items)) ⌝ }
