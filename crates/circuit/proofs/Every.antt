@@ -54,3 +54,11 @@ or-assoc false b c = refl
 pub any-push : {X : Type 0} (test : X → Bool) (xs : List X) (x : X) → any test (xs ++ (x ∷ [])) ≡ (any test xs || test x)
 any-push test [] x = or-false (test x)
 any-push test (y ∷ ys) x = ap (λ b. test y || b) (any-push test ys x) ∙ sym (or-assoc (test y) (any test ys) (test x))
+
+-- two tests that each hold of every element hold together
+pub every-both : {X : Type 0} (test other : X → Bool) (xs : List X) → every test xs ≡ true → every other xs ≡ true → every (λ x. test x && other x) xs ≡ true
+every-both test other [] h k = refl
+every-both test other (x ∷ xs) h k =
+    let a = and-parts (test x) (every test xs) h in
+    let b = and-parts (other x) (every other xs) k in
+    and-from (test x && other x) (every (λ y. test y && other y) xs) (and-from (test x) (other x) (a .0) (b .0)) (every-both test other xs (a .1) (b .1))

@@ -1,3 +1,16 @@
 pub mod Bytes
 pub mod Frames
 pub mod Tests
+pub mod Terminals
+pub mod Order
+pub mod Grounds
+pub mod Steps
+pub mod Passed
+pub mod Made
+pub mod Fitting
+pub mod Followed
+pub mod Lines
+pub mod Through
+pub mod Judged
+pub mod Answer
+pub mod Dump

@@ -4,3 +4,5 @@ pub mod Breaches
 pub mod Lent
 pub mod Answered
 pub mod Marked
+pub mod Covering
+pub mod Soundness

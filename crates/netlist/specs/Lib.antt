@@ -3,3 +3,4 @@ pub mod Domains
 pub mod Growth
 pub mod Changes
 pub mod Drafted
+pub mod Circuits

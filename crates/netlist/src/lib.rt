@@ -1,4 +1,5 @@
 // A circuit block: its elements, its clock domains, the tables that hold them, and the changes of one element.
+mod block;
 mod domains;
 mod draft;
 mod elements;
@@ -6,6 +7,7 @@ mod faults;
 pub mod limits;
 mod table;
 
+pub use block::Block;
 pub use domains::DomainSet;
 pub use draft::Draft;
 pub use elements::FlipFlop;
@@ -15,3 +17,4 @@ pub use elements::Terminal;
 pub use elements::Wire;
 pub use faults::BlockFault;
 pub use faults::BlockFaultFromAlloc;
+pub use faults::ChangeFault;
