@@ -1,0 +1,7 @@
+// Reads the text of a dump into a block, or refuses it with a ground and a line.
+mod digits;
+mod frame;
+
+pub use digits::DigitFault;
+pub use frame::Frame;
+pub use frame::FrameFault;
