@@ -1,3 +1,4 @@
 pub mod Decoded
 pub mod Feeds
 pub mod Numbers
+pub mod Grounded

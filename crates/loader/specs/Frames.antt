@@ -12,6 +12,8 @@ use Rattle.loader.specs.declared.digits.DigitFault.{DigitFault}
 use Rattle.loader.specs.declared.digits.DigitFault.the-variants as digit
 use Rattle.loader.specs.declared.frame.Frame.{Frame}
 use Rattle.loader.specs.declared.frame.Frame.the-variants.{Domains, FlipFlop, Gate, Wire, End}
+use Rattle.loader.specs.declared.frame.Kind.{Kind}
+use Rattle.loader.specs.declared.frame.Kind.the-variants as kind
 use Rattle.loader.specs.declared.frame.FrameFault.{FrameFault}
 use Rattle.loader.specs.declared.frame.FrameFault.the-variants.{Spelling, Shape, Memory}
 
@@ -21,6 +23,13 @@ frame-of (FlipFlop setup hold) = flop-frame (record { setup = setup; hold = hold
 frame-of (Gate smaller larger) = gate-frame (record { smaller = smaller; larger = larger })
 frame-of (Wire start end delay) = wire-frame (terminal-of start) (terminal-of end) delay
 frame-of End = end-frame
+
+abbrev pub kind-number : Kind → ℕ
+kind-number kind.Domains = 1
+kind-number kind.FlipFlop = 2
+kind-number kind.Gate = 3
+kind-number kind.Wire = 4
+kind-number kind.End = 5
 
 -- a fault of the digit layer, passed up
 abbrev pub frame-fault : DigitFault → FrameFault

@@ -3,8 +3,9 @@ ghost use mathlib.Core.Path.{_≡_};
 ghost use Rattle.std.specs.Results.{Cases};
 ghost use Rattle.std.specs.Of.Vec.{vec-items};
 ghost use Rattle.std.specs.declared.option.Option.the-variants.{Some, None};
+ghost use Rattle.dumps.specs.Frame.{kind};
 ghost use Rattle.dumps.specs.Reading.{numbers, parsed};
-ghost use Rattle.loader.specs.Frames.{frame-of, frame-fault, Says-frame, Unframed, Unparsed};
+ghost use Rattle.loader.specs.Frames.{frame-of, kind-number, frame-fault, Says-frame, Unframed, Unparsed};
 ghost use Rattle.loader.specs.declared.frame.FrameFault.the-variants.{Memory};
 use crate::digits::DigitFault;
 use crate::digits::decode;
@@ -27,6 +28,30 @@ pub enum Frame {
     Gate { smaller: u16, larger: u16 },
     Wire { start: Terminal, end: Terminal, delay: u16 },
     End,
+}
+
+// The kind of a frame.
+#[derive(Clone, Copy, PartialEq, Eq, Debug)]
+pub enum Kind {
+    Domains,
+    FlipFlop,
+    Gate,
+    Wire,
+    End,
+}
+
+impl Frame {
+    pub fn kind(&self) -> Kind
+        ensures { λ r. ⌜ kind-number r ≡ kind (frame-of (now (self .entry))) ⌝ }
+    {
+        match self {
+            Frame::Domains { .. } => Kind::Domains,
+            Frame::FlipFlop { .. } => Kind::FlipFlop,
+            Frame::Gate { .. } => Kind::Gate,
+            Frame::Wire { .. } => Kind::Wire,
+            Frame::End => Kind::End,
+        }
+    }
 }
 
 // Why a line says no frame.

@@ -1,6 +1,9 @@
 // Reads the text of a dump into a block, or refuses it with a ground and a line.
+mod assembly;
 mod digits;
+mod faults;
 mod frame;
+mod stage;
 
 pub use digits::DigitFault;
 pub use frame::Frame;

@@ -54,7 +54,7 @@ fn stored(skews: &[u16]) -> [u16; MOST_DOMAINS]
 impl DomainSet {
     // The set of these skews in a period of this many parts, or none outside the limits.
     pub fn new(parts: u16, skews: &[u16]) -> Option<DomainSet>
-        ensures { λ r. ⌜ Cases r (SoundDomains parts (now (skews .entry)) → ⊥) (λ d. (d .parts ≡ parts) × (skews-of d ≡ now (skews .entry))) ⌝ }
+        ensures { λ r. ⌜ Cases r (SoundDomains parts (now (skews .entry)) → ⊥) (λ d. SoundDomains parts (now (skews .entry)) × (d .parts ≡ parts) × (skews-of d ≡ now (skews .entry))) ⌝ }
     {
         if !sound(parts, skews) {
             return None;
