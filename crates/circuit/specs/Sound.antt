@@ -74,6 +74,10 @@ Fed gates wires = (g : ℕ) → g < gates → any (enters g) wires ≡ true
 abbrev pub Drained : ℕ → List Wire → Type 0
 Drained gates wires = (g : ℕ) → g < gates → any (leaves g) wires ≡ true
 
+-- no gate is open
+abbrev pub Covered : Circuit → Type 0
+Covered c = Fed (length (c .gates)) (c .wires) × Drained (length (c .gates)) (c .wires)
+
 pub record Sound (c : Circuit) : Type 0 where
   pub domains : SoundDomains (c .parts) (c .skews)
   pub few-flops : length (c .flops) ≤ most-flops

@@ -3,5 +3,8 @@ mod ground;
 mod laws;
 
 pub use ground::Ground;
+pub use ground::GroundDebug;
+pub use ground::GroundEq;
+pub use ground::GroundPartialEq;
 pub use laws::every_sound_circuit_has_a_dump;
 pub use laws::one_answer;

@@ -12,7 +12,7 @@ use Rattle.std.specs.declared.option.Option.the-variants.{Some, None}
 use Rattle.std.proofs.shelf.Tests.{cond-true, cond-false}
 use Rattle.circuit.specs.Circuit.{Circuit, Wire}
 use Rattle.circuit.specs.Limits.{most-wires}
-use Rattle.circuit.specs.Sound.{SoundDomains, Fed, Drained, forward}
+use Rattle.circuit.specs.Sound.{SoundDomains, Covered, forward}
 use Rattle.circuit.specs.Terminal.{Terminal, place, known}
 use Rattle.dumps.specs.declared.ground.Ground.{Ground}
 use Rattle.dumps.specs.declared.ground.Ground.the-variants as ground
@@ -37,10 +37,10 @@ domains-refused c parts skews h = when-not (sound-domains parts skews) ground.Do
 pub domains-free : (c : Circuit) (parts : ℕ) (skews : List ℕ) → SoundDomains parts skews → breach c (domains-frame parts skews) ≡ None
 domains-free c parts skews h = cond-true (sound-domains parts skews) None (Some ground.Domains) (sound-domains-all parts skews h)
 
-pub end-refused : (c : Circuit) → ((Fed (length (c .gates)) (c .wires) × Drained (length (c .gates)) (c .wires)) → ⊥) → breach c end-frame ≡ Some ground.Open
+pub end-refused : (c : Circuit) → (Covered c → ⊥) → breach c end-frame ≡ Some ground.Open
 end-refused c h = when-not (joined-up (length (c .gates)) (c .wires)) ground.Open (λ t. h (joined-up-right (length (c .gates)) (c .wires) t))
 
-pub end-free : (c : Circuit) → (Fed (length (c .gates)) (c .wires) × Drained (length (c .gates)) (c .wires)) → breach c end-frame ≡ None
+pub end-free : (c : Circuit) → Covered c → breach c end-frame ≡ None
 end-free c h = cond-true (joined-up (length (c .gates)) (c .wires)) None (Some ground.Open) (joined-up-all (length (c .gates)) (c .wires) (h .0) (h .1))
 
 -- the ground of a fault; want of memory has none, and any serves

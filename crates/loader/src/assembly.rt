@@ -1,9 +1,12 @@
 // The frames of a dump, put together line by line.
 ghost use mathlib.Core.Path.{_≡_};
+ghost use mathlib.Core.Logic.{_⊎_};
 ghost use Rattle.std.specs.Results.{Cases};
 ghost use Rattle.std.specs.declared.option.Option.the-variants.{None};
 ghost use Rattle.std.specs.declared.result.Result.the-variants.{Ok};
 ghost use Rattle.dumps.specs.Reading.{breach, grown, begin, step};
+ghost use Rattle.circuit.specs.Sound.{Covered};
+ghost use Rattle.netlist.specs.Circuits.{circuit};
 ghost use Rattle.netlist.specs.Drafted.{drafted};
 ghost use Rattle.loader.specs.Frames.{frame-of};
 ghost use Rattle.loader.specs.Lines.{Breached, Stopped};
@@ -14,6 +17,8 @@ use crate::faults::LineFaultFromFrame;
 use crate::frame::Frame;
 use crate::frame::read_frame;
 use crate::stage::Stage;
+use dumps::Ground;
+use netlist::Block;
 use netlist::BlockFault;
 use netlist::DomainSet;
 use netlist::Draft;
@@ -63,5 +68,16 @@ impl Assembly {
         let frame = read_frame(line, heap)?;
         self.stage.advance(frame.kind())?;
         put(&mut self.draft, frame)
+    }
+
+    // The block, if the end has come.
+    pub fn finish(self) -> Result<Block, LineFault>
+        ensures { λ r. ⌜ Cases r (λ b. (state-of self .reached ≡ 5) × (circuit b ≡ state-of self .circuit)) (λ e. ((state-of self .reached ≡ 5 → ⊥) × (e ≡ LineFault.Refused Ground.Order)) ⊎ ((state-of self .reached ≡ 5) × (Covered (state-of self .circuit) → ⊥))) ⌝ }
+    {
+        let Assembly { stage, draft } = self;
+        match stage {
+            Stage::End => Ok(Block::of(draft)?),
+            _ => Err(LineFault::Refused(Ground::Order)),
+        }
     }
 }

@@ -4,7 +4,10 @@ mod digits;
 mod faults;
 mod frame;
 mod stage;
+mod text;
 
 pub use digits::DigitFault;
 pub use frame::Frame;
 pub use frame::FrameFault;
+pub use text::LoadError;
+pub use text::load;

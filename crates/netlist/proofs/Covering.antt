@@ -8,11 +8,8 @@ use native.Mathlib.Omega.{arith}
 use Rattle.std.specs.declared.option.Option.{Option}
 use Rattle.std.proofs.shelf.Lists.{length-set}
 use Rattle.circuit.specs.Circuit.{Circuit, Gate, Wire, with-gates, with-wires}
-use Rattle.circuit.specs.Sound.{any, enters, leaves, Fed, Drained}
+use Rattle.circuit.specs.Sound.{any, enters, leaves, Covered}
 use Rattle.netlist.specs.Changes.{Change, missing, crossed, made, delayed}
-
-abbrev pub Covered : Circuit → Type 0
-Covered c = Fed (length (c .gates)) (c .wires) × Drained (length (c .gates)) (c .wires)
 
 -- a change whose result is covered leaves a covered circuit covered, made or refused
 pub change-covered : (There May : Type 0) (before changed : Circuit) (code : Option ℕ) (after : Circuit) → Change There May before changed code after → Covered before → Covered changed → Covered after

@@ -5,7 +5,7 @@ ghost use Rattle.std.specs.Finite.{nth};
 ghost use Rattle.std.specs.Options.{mapped};
 ghost use Rattle.std.specs.Results.{Cases};
 ghost use Rattle.circuit.specs.Circuit.{empty};
-ghost use Rattle.circuit.specs.Sound.{Sound, Fed, Drained};
+ghost use Rattle.circuit.specs.Sound.{Sound, Covered};
 ghost use Rattle.netlist.specs.Figures.{flop-of, gate-of, wire-of};
 ghost use Rattle.netlist.specs.Changes.{change-code, ChangeGateCall, ChangeWireCall, ChangeFlopCall};
 ghost use Rattle.netlist.specs.Drafted.{drafted};
@@ -29,7 +29,7 @@ impl Block {
 
     // The block of a finished draft, unless a gate lacks a wire in or a wire out.
     pub fn of(draft: Draft) -> Result<Block, BlockFault>
-        ensures { λ r. ⌜ Cases r (λ b. circuit b ≡ drafted draft) (λ e. (e ≡ BlockFault.Open) × ((Fed (length (drafted draft .gates)) (drafted draft .wires) × Drained (length (drafted draft .gates)) (drafted draft .wires)) → ⊥)) ⌝ }
+        ensures { λ r. ⌜ Cases r (λ b. circuit b ≡ drafted draft) (λ e. (e ≡ BlockFault.Open) × (Covered (drafted draft) → ⊥)) ⌝ }
     {
         if !draft.is_joined_up() {
             return Err(BlockFault::Open);

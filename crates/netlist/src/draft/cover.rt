@@ -4,7 +4,7 @@ ghost use mathlib.Core.Bool.{true, false, _||_};
 ghost use Prim.Native.Nat.{ℕ, _<_, _≤_};
 ghost use lib.ListN.{length, getD};
 ghost use Rattle.std.specs.Orderings.{Decides};
-ghost use Rattle.circuit.specs.Sound.{is-gate, Fed, Drained};
+ghost use Rattle.circuit.specs.Sound.{is-gate, Covered};
 ghost use Rattle.netlist.specs.Figures.{place-of};
 ghost use Rattle.netlist.specs.Drafted.{drafted};
 use crate::draft::Draft;
@@ -42,7 +42,7 @@ fn all_marked(marks: &[bool], count: usize) -> bool
 impl Draft {
     // Whether every gate has a wire in and a wire out. One walk over the wires and one over the gates.
     pub fn is_joined_up(&self) -> bool
-        ensures { λ r. ⌜ Decides r (Fed (length (drafted (now (self .entry)) .gates)) (drafted (now (self .entry)) .wires) × Drained (length (drafted (now (self .entry)) .gates)) (drafted (now (self .entry)) .wires)) ⌝ }
+        ensures { λ r. ⌜ Decides r (Covered (drafted (now (self .entry)))) ⌝ }
     {
         let mut fed = [false; MOST_GATES];
         let mut drained = [false; MOST_GATES];

@@ -1,0 +1,41 @@
+-- What loading a text answers, and the circuit that it leaves in the caller's block.
+use mathlib.Core.Path.{_≡_}
+use mathlib.Core.List.{List}
+use Prim.Native.Nat.{ℕ}
+use Rattle.std.specs.declared.result.Result.{Result}
+use Rattle.std.specs.declared.result.Result.the-variants.{Ok, Err}
+use Rattle.circuit.specs.Circuit.{Circuit, empty}
+use Rattle.dumps.specs.Ground.{number-of}
+use Rattle.dumps.specs.Verdict.{Verdict, accepted, refused, Judged}
+use Rattle.loader.specs.declared.faults.LineFault.{LineFault}
+use Rattle.loader.specs.declared.faults.LineFault.the-variants as line
+use Rattle.loader.specs.declared.text.LoadError.{LoadError}
+use Rattle.loader.specs.declared.text.LoadError.the-variants.{Refused, Memory}
+
+-- the answer of a load: the number and line of a refusal, or want of memory, which has no number
+pub data LoadAnswer : Type 0 where
+  loaded : LoadAnswer
+  refused-at : ℕ → ℕ → LoadAnswer
+  no-memory : LoadAnswer
+
+abbrev pub load-answer : {X : Type 0} → Result X LoadError → LoadAnswer
+load-answer (Ok x) = loaded
+load-answer (Err (Refused ground at)) = refused-at (number-of ground) at
+load-answer (Err Memory) = no-memory
+
+-- the text is a writing of the sound circuit that is left, or it has this refusal and the empty circuit is left;
+-- want of memory leaves the empty circuit too
+abbrev pub LoadCall : List ℕ → LoadAnswer → Circuit → Type 0
+LoadCall text loaded after = Judged text (accepted after)
+LoadCall text (refused-at number at) after = Judged text (refused number at) × (after ≡ empty)
+LoadCall text no-memory after = after ≡ empty
+
+-- the fault of a line, with the line
+abbrev pub with-line : LineFault → ℕ → LoadError
+with-line (line.Refused ground) at = Refused ground at
+with-line line.Memory at = Memory
+
+-- the error is this verdict, and want of memory says nothing
+abbrev pub Refusing : LoadError → Verdict → Type 0
+Refusing (Refused ground at) verdict = verdict ≡ refused (number-of ground) at
+Refusing Memory verdict = Unit {0}
