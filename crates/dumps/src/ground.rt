@@ -1,5 +1,5 @@
 ghost use mathlib.Core.Path.{_≡_};
-ghost use Rattle.dumps.specs.Ground.{number-of};
+ghost use Rattle.dumps.specs.Ground.{number-of, reason};
 
 // Why a line of a dump is refused.
 #[derive(Clone, Copy, PartialEq, Eq, Debug)]
@@ -39,6 +39,23 @@ impl Ground {
             Ground::Absent => 7,
             Ground::Backward => 8,
             Ground::Open => 9,
+        }
+    }
+
+    // What is wrong, in words.
+    pub fn reason(self) -> &'static str
+        ensures { λ r. ⌜ now r ≡ reason (number-of self) ⌝ }
+    {
+        match self {
+            Ground::Spelling => "foreign character, odd digit count, empty line or no line feed",
+            Ground::Shape => "unknown kind or wrong length",
+            Ground::Order => "frame out of its order or no end",
+            Ground::Domains => "domain set outside its limits",
+            Ground::Surplus => "one flip-flop, gate or wire too many",
+            Ground::Delays => "smaller delay above the larger",
+            Ground::Absent => "wire names a class or number that is not there",
+            Ground::Backward => "wire between gates does not start at the smaller number",
+            Ground::Open => "gate with no wire in or no wire out",
         }
     }
 }
