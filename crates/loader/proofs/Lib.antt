@@ -5,3 +5,4 @@ pub mod Grounded
 pub mod Cuts
 pub mod Runs
 pub mod Called
+pub mod Lawful

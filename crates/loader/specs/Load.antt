@@ -2,6 +2,8 @@
 use mathlib.Core.Path.{_≡_}
 use mathlib.Core.List.{List}
 use Prim.Native.Nat.{ℕ}
+use Rattle.std.specs.declared.option.Option.{Option}
+use Rattle.std.specs.declared.option.Option.the-variants.{Some, None}
 use Rattle.std.specs.declared.result.Result.{Result}
 use Rattle.std.specs.declared.result.Result.the-variants.{Ok, Err}
 use Rattle.circuit.specs.Circuit.{Circuit, empty}
@@ -22,6 +24,15 @@ abbrev pub load-answer : {X : Type 0} → Result X LoadError → LoadAnswer
 load-answer (Ok x) = loaded
 load-answer (Err (Refused ground at)) = refused-at (number-of ground) at
 load-answer (Err Memory) = no-memory
+
+-- the number and the line of an error, as its answer has them
+abbrev pub error-number : LoadError → Option ℕ
+error-number (Refused ground at) = Some (number-of ground)
+error-number Memory = None
+
+abbrev pub error-line : LoadError → Option ℕ
+error-line (Refused ground at) = Some at
+error-line Memory = None
 
 -- the text is a writing of the sound circuit that is left, or it has this refusal and the empty circuit is left;
 -- want of memory leaves the empty circuit too

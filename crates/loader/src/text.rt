@@ -8,7 +8,7 @@ ghost use Rattle.dumps.specs.Spelling.{lines};
 ghost use Rattle.dumps.specs.Verdict.{accepted};
 ghost use Rattle.dumps.specs.Reading.{judge};
 ghost use Rattle.netlist.specs.Circuits.{circuit};
-ghost use Rattle.loader.specs.Load.{with-line, load-answer, LoadCall, Refusing};
+ghost use Rattle.loader.specs.Load.{with-line, error-number, error-line, load-answer, LoadCall, Refusing};
 use crate::assembly::Assembly;
 use crate::faults::LineFault;
 use dumps::Ground;
@@ -25,6 +25,28 @@ const LINE_FEED: u8 = b'\n';
 pub enum LoadError {
     Refused { ground: Ground, line: usize },
     Memory,
+}
+
+impl LoadError {
+    // The number of a refusal; want of memory has none.
+    pub fn number(self) -> Option<u8>
+        ensures { λ r. ⌜ r ≡ error-number self ⌝ }
+    {
+        match self {
+            LoadError::Refused { ground, .. } => Some(ground.number()),
+            LoadError::Memory => None,
+        }
+    }
+
+    // The line of a refusal, counted from 1; want of memory has none.
+    pub fn line(self) -> Option<usize>
+        ensures { λ r. ⌜ r ≡ error-line self ⌝ }
+    {
+        match self {
+            LoadError::Refused { line, .. } => Some(line),
+            LoadError::Memory => None,
+        }
+    }
 }
 
 impl LineFault {

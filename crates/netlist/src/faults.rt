@@ -1,5 +1,6 @@
 // Why a block cannot take what it is given.
 ghost use mathlib.Core.Path.{_≡_};
+ghost use Rattle.netlist.specs.Changes.{change-number};
 ghost use Rattle.netlist.specs.declared.faults.BlockFault.the-variants.{Memory};
 use std::alloc::AllocError;
 
@@ -37,4 +38,16 @@ pub enum ChangeFault {
     Missing,
     // a smaller delay above the larger one
     Delays,
+}
+
+impl ChangeFault {
+    // The number by which callers know the refusal.
+    pub fn number(self) -> u8
+        ensures { λ r. ⌜ r ≡ change-number self ⌝ }
+    {
+        match self {
+            ChangeFault::Missing => 10,
+            ChangeFault::Delays => 11,
+        }
+    }
 }
