@@ -36,7 +36,10 @@ fn of_block(block: &Block, heap: Global) -> Result<String, AllocError>
     let flops = block.flip_flop_count();
     let gates = block.gate_count();
     let wires = block.wire_count();
-    format!(heap, "accepted\nQ {parts} skews{skews}\nflip-flops {flops}\ngates {gates}\nwires {wires}\n")
+    format!(
+        heap,
+        "accepted\nQ {parts} skews{skews}\nflip-flops {flops}\ngates {gates}\nwires {wires}\n"
+    )
 }
 
 // Fails where the load failed for want of memory.

@@ -19,8 +19,6 @@ use crate::frame::read_frame;
 use crate::stage::Stage;
 use dumps::Ground;
 use netlist::Block;
-use netlist::BlockFault;
-use netlist::DomainSet;
 use netlist::Draft;
 use std::alloc::Global;
 
@@ -29,20 +27,11 @@ fn put(draft: &mut Draft, frame: Frame) -> Result<(), LineFault>
     ensures { λ r. ⌜ Cases r (λ _. (breach (drafted (now (draft .entry))) (frame-of frame) ≡ None) × (drafted (now (draft .exit)) ≡ grown (drafted (now (draft .entry))) (frame-of frame))) (λ e. Breached e (breach (drafted (now (draft .entry))) (frame-of frame))) ⌝ }
 {
     match frame {
-        Frame::Domains { parts, skews } => {
-            let Some(domains) = DomainSet::new(parts, &skews) else {
-                return Err(BlockFault::Domains.into());
-            };
-            draft.set_domains(domains);
-        }
+        Frame::Domains { parts, skews } => draft.set_domains(parts, &skews)?,
         Frame::FlipFlop { setup, hold } => draft.add_flip_flop(setup, hold)?,
         Frame::Gate { smaller, larger } => draft.add_gate(smaller, larger)?,
         Frame::Wire { start, end, delay } => draft.add_wire(start, end, delay)?,
-        Frame::End => {
-            if !draft.is_joined_up() {
-                return Err(BlockFault::Open.into());
-            }
-        }
+        Frame::End => draft.close()?,
     }
     Ok(())
 }
@@ -58,7 +47,10 @@ impl Assembly {
     pub fn new(heap: Global) -> Assembly
         ensures { λ r. ⌜ state-of r ≡ begin ⌝ }
     {
-        Assembly { stage: Stage::Start, draft: Draft::new(heap) }
+        Assembly {
+            stage: Stage::Start,
+            draft: Draft::new(heap),
+        }
     }
 
     // Takes the next line.

@@ -15,18 +15,35 @@ use std::alloc::Global;
 use std::alloc::Refused;
 
 const DOMAINS: u8 = 0x01;
+
 const FLIP_FLOP: u8 = 0x02;
+
 const GATE: u8 = 0x03;
+
 const WIRE: u8 = 0x04;
+
 const END: u8 = 0x05;
 
 // A frame with its fields as they were written.
 #[derive(Drop)]
 pub enum Frame {
-    Domains { parts: u16, skews: Vec<u16> },
-    FlipFlop { setup: u16, hold: i16 },
-    Gate { smaller: u16, larger: u16 },
-    Wire { start: Terminal, end: Terminal, delay: u16 },
+    Domains {
+        parts: u16,
+        skews: Vec<u16>,
+    },
+    FlipFlop {
+        setup: u16,
+        hold: i16,
+    },
+    Gate {
+        smaller: u16,
+        larger: u16,
+    },
+    Wire {
+        start: Terminal,
+        end: Terminal,
+        delay: u16,
+    },
     End,
 }
 
@@ -105,7 +122,10 @@ fn parse(bytes: &[u8], heap: Global) -> Result<Frame, FrameFault>
             if skews.len() != 2 * *count as usize {
                 return Err(FrameFault::Shape);
             }
-            Ok(Frame::Domains { parts: u16::from_be_bytes([*q1, *q0]), skews: fields(skews, heap)? })
+            Ok(Frame::Domains {
+                parts: u16::from_be_bytes([*q1, *q0]),
+                skews: fields(skews, heap)?,
+            })
         }
         [FLIP_FLOP] => Ok(Frame::FlipFlop { setup: 0, hold: 0 }),
         [FLIP_FLOP, x1, x0, h1, h0] => Ok(Frame::FlipFlop {
@@ -117,8 +137,14 @@ fn parse(bytes: &[u8], heap: Global) -> Result<Frame, FrameFault>
             larger: u16::from_be_bytes([*l1, *l0]),
         }),
         [WIRE, sc, s1, s0, ec, e1, e0, w1, w0] => Ok(Frame::Wire {
-            start: Terminal { class: *sc, number: u16::from_be_bytes([*s1, *s0]) },
-            end: Terminal { class: *ec, number: u16::from_be_bytes([*e1, *e0]) },
+            start: Terminal {
+                class: *sc,
+                number: u16::from_be_bytes([*s1, *s0]),
+            },
+            end: Terminal {
+                class: *ec,
+                number: u16::from_be_bytes([*e1, *e0]),
+            },
             delay: u16::from_be_bytes([*w1, *w0]),
         }),
         [END] => Ok(Frame::End),

@@ -29,8 +29,10 @@ impl Stage {
             (Stage::Start, Kind::Domains) => *self = Stage::Domains,
             (Stage::Domains | Stage::FlipFlops, Kind::FlipFlop) => *self = Stage::FlipFlops,
             (Stage::Domains | Stage::FlipFlops | Stage::Gates, Kind::Gate) => *self = Stage::Gates,
-            (Stage::Domains | Stage::FlipFlops | Stage::Gates | Stage::Wires, Kind::Wire) => *self = Stage::Wires,
-            (Stage::Domains | Stage::FlipFlops | Stage::Gates | Stage::Wires, Kind::End) => *self = Stage::End,
+            (Stage::Domains | Stage::FlipFlops | Stage::Gates | Stage::Wires, Kind::Wire) => *self =
+                Stage::Wires,
+            (Stage::Domains | Stage::FlipFlops | Stage::Gates | Stage::Wires, Kind::End) => *self =
+                Stage::End,
             _ => return Err(LineFault::Refused(Ground::Order)),
         }
         Ok(())

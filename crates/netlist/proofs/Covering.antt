@@ -27,6 +27,7 @@ any-delayed test same (w ∷ ws) zero d = ap (λ b. b || any test ws) (same w d)
 any-delayed test same (w ∷ ws) (suc n) d = ap (λ b. test w || b) (any-delayed test same ws n d)
 
 pub wires-covered : (c : Circuit) (n d : ℕ) → Covered c → Covered (with-wires c (delayed (c .wires) n d))
-wires-covered c n d h =
-    ((λ g l. any-delayed (enters g) (λ w e. refl) (c .wires) n d ∙ h .0 g l),
-    (λ g l. any-delayed (leaves g) (λ w e. refl) (c .wires) n d ∙ h .1 g l))
+wires-covered c n d h = (
+  (λ g l. any-delayed (enters g) (λ w e. refl) (c .wires) n d ∙ h .0 g l),
+  (λ g l. any-delayed (leaves g) (λ w e. refl) (c .wires) n d ∙ h .1 g l),
+)

@@ -11,7 +11,7 @@ mod make;
 
 // Domain n has the skew `skews[n]` ÷ `parts` of the period; the first `count` skews are in use.
 #[derive(Clone, Copy)]
-pub struct DomainSet {
+pub(crate) struct DomainSet {
     parts: u16,
     count: usize,
     skews: [u16; MOST_DOMAINS],

@@ -8,7 +8,6 @@ pub mod limits;
 mod table;
 
 pub use block::Block;
-pub use domains::DomainSet;
 pub use draft::Draft;
 pub use elements::FlipFlop;
 pub use elements::Gate;

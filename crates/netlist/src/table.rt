@@ -24,20 +24,22 @@ pub struct Table<T> {
 }
 
 impl<T: Copy> Table<T> {
-    pub fn new(heap: Global) -> Self
+    pub(crate) fn new(heap: Global) -> Self
         ensures { λ r. ⌜ vec-items (r .items) ≡ [] ⌝ }
     {
-        Table { items: Vec::new(heap) }
+        Table {
+            items: Vec::new(heap),
+        }
     }
 
-    pub fn len(&self) -> usize
+    pub(crate) fn len(&self) -> usize
         ensures { λ r. ⌜ r ≡ length (vec-items (now (self .entry) .items)) ⌝ }
     {
         self.items.len()
     }
 
     // The element of this number, or none beyond the last.
-    pub fn get(&self, number: usize) -> Option<T>
+    pub(crate) fn get(&self, number: usize) -> Option<T>
         ensures { λ r. ⌜ r ≡ nth (vec-items (now (self .entry) .items)) number ⌝ }
     {
         if number < self.items.len() {
@@ -47,14 +49,14 @@ impl<T: Copy> Table<T> {
         }
     }
 
-    pub fn as_slice(&self) -> &[T]
+    pub(crate) fn as_slice(&self) -> &[T]
         ensures { λ r. ⌜ now r ≡ vec-items (now (self .entry) .items) ⌝ }
     {
         self.items.as_slice()
     }
 
     // One element more, or no memory for it.
-    pub fn push(&mut self, item: T) -> Result<(), AllocError>
+    pub(crate) fn push(&mut self, item: T) -> Result<(), AllocError>
         ensures { λ r. ⌜ vec-items (now (self .exit) .items) ≡ cond (isOk r) (vec-items (now (self .entry) .items) ++ (item ∷ [])) (vec-items (now (self .entry) .items)) ⌝ }
     {
         self.items.push(item)?;
@@ -62,7 +64,7 @@ impl<T: Copy> Table<T> {
     }
 
     // The element of this number, lent for a change.
-    pub fn lend(&mut self, number: usize) -> Option<&mut T>
+    pub(crate) fn lend(&mut self, number: usize) -> Option<&mut T>
         ensures { λ r. sem 𝓤 H A (follows-if (the-row T·row) T·row (name (self .entry)) (nameOf r) (λ w. record { items = with-item (now (self .entry) .items) number w }) (now (self .entry))) ∗ ⌜ (isSome r ≡ ltb number (length (vec-items (now (self .entry) .items)))) × found r (λ x. now x ≡ getD (vec-items (now (self .entry) .items)) number (now x)) ⌝ }
     {
         self.items.get_mut(number)

@@ -11,6 +11,6 @@ returns-in-Refused c =
     let line = c .in-Refused .line in
     made-weaker (c .format .result) _ _
     (λ s h.
-      let P : LoadError → Type 0 = λ e. Tells e (string-bytes s) in
-      subst P (sym (c .in-Refused .is)) (h ∙ (ap (λ n. refusal-line n line (c .reason-reason .result .now)) (c .number-number .ensures) ∙ ap (refusal-line (number-of (c .in-Refused .ground)) line) (c .reason-reason .ensures))))
+    let P : LoadError → Type 0 = λ e. Tells e (string-bytes s) in
+    subst P (sym (c .in-Refused .is)) (h ∙ (ap (λ n. refusal-line n line (c .reason-reason .result .now)) (c .number-number .ensures) ∙ ap (refusal-line (number-of (c .in-Refused .ground)) line) (c .reason-reason .ensures))))
     (c .format .ensures .made)

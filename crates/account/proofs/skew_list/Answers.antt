@@ -17,9 +17,10 @@ loop-skew-again c =
     let n = c .loop-skew .domain in
     let v = c .in-Some .skew in
     let found = sym (c .in-Some .ensures tt) in
-    let within : n < length skews = next-within skews n v found in
-    (omega arith,
-    c .in-Continue-push-str .ensures tt .bytes
-    ∙ (ap (λ bytes. bytes ++ c .as-str .result .now) (c .loop-skew .inv .1)
-    ∙ (ap (λ bytes. skew-words (take n skews) ++ bytes) (c .as-str .ensures .value ∙ c .in-Continue-word .ensures tt .made)
-    ∙ sym (words-more skews n v found))))
+    let within : n < length skews = next-within skews n v found in (
+      omega arith,
+      c .in-Continue-push-str .ensures tt .bytes
+          ∙ (ap (λ bytes. bytes ++ c .as-str .result .now) (c .loop-skew .inv .1)
+          ∙ (ap (λ bytes. skew-words (take n skews) ++ bytes) (c .as-str .ensures .value ∙ c .in-Continue-word .ensures tt .made)
+          ∙ sym (words-more skews n v found))),
+    )

@@ -24,16 +24,16 @@ impl Block {
     pub fn new(heap: Global) -> Block
         ensures { λ r. ⌜ circuit r ≡ empty ⌝ }
     {
-        Block { draft: Draft::new(heap) }
+        Block {
+            draft: Draft::new(heap),
+        }
     }
 
     // The block of a finished draft, unless a gate lacks a wire in or a wire out.
     pub fn of(draft: Draft) -> Result<Block, BlockFault>
         ensures { λ r. ⌜ Cases r (λ b. circuit b ≡ drafted draft) (λ e. (e ≡ BlockFault.Open) × (Covered (drafted draft) → ⊥)) ⌝ }
     {
-        if !draft.is_joined_up() {
-            return Err(BlockFault::Open);
-        }
+        draft.close()?;
         Ok(Block { draft })
     }
 
@@ -97,7 +97,12 @@ impl Block {
     }
 
     // Replaces the delays of one gate.
-    pub fn change_gate(&mut self, number: usize, smaller: u16, larger: u16) -> Result<(), ChangeFault>
+    pub fn change_gate(
+        &mut self,
+        number: usize,
+        smaller: u16,
+        larger: u16,
+    ) -> Result<(), ChangeFault>
         ensures { λ r. ⌜ ChangeGateCall (circuit (now (self .entry))) number smaller larger (change-code r) (circuit (now (self .exit))) ⌝ }
     {
         self.draft.change_gate(number, smaller, larger)
@@ -111,7 +116,12 @@ impl Block {
     }
 
     // Replaces the setup and the hold time of one flip-flop.
-    pub fn change_flip_flop(&mut self, number: usize, setup: u16, hold: i16) -> Result<(), ChangeFault>
+    pub fn change_flip_flop(
+        &mut self,
+        number: usize,
+        setup: u16,
+        hold: i16,
+    ) -> Result<(), ChangeFault>
         ensures { λ r. ⌜ ChangeFlopCall (circuit (now (self .entry))) number setup hold (change-code r) (circuit (now (self .exit))) ⌝ }
     {
         self.draft.change_flip_flop(number, setup, hold)
@@ -120,6 +130,5 @@ impl Block {
     // Every block is sound: its type keeps each limit.
     pub fn is_sound(&self)
         ensures { λ _. ⌜ Sound (circuit (now (self .entry))) ⌝ }
-    {
-    }
+    {}
 }

@@ -53,38 +53,46 @@ fn stored(skews: &[u16]) -> [u16; MOST_DOMAINS]
 
 impl DomainSet {
     // The set of these skews in a period of this many parts, or none outside the limits.
-    pub fn new(parts: u16, skews: &[u16]) -> Option<DomainSet>
+    pub(crate) fn new(parts: u16, skews: &[u16]) -> Option<DomainSet>
         ensures { λ r. ⌜ Cases r (SoundDomains parts (now (skews .entry)) → ⊥) (λ d. SoundDomains parts (now (skews .entry)) × (d .parts ≡ parts) × (skews-of d ≡ now (skews .entry))) ⌝ }
     {
         if !sound(parts, skews) {
             return None;
         }
         let count = skews.len();
-        Some(DomainSet { parts, count, skews: stored(skews) })
+        Some(DomainSet {
+            parts,
+            count,
+            skews: stored(skews),
+        })
     }
 
     // One domain of skew 0 in a period of one part.
-    pub fn single() -> DomainSet
+    pub(crate) fn single() -> DomainSet
         ensures { λ r. ⌜ (r .parts ≡ 1) × (skews-of r ≡ 0 ∷ []) ⌝ }
     {
-        DomainSet { parts: 1, count: 1, skews: [0; MOST_DOMAINS] }
+        DomainSet {
+            parts: 1,
+            count: 1,
+            skews: [0; MOST_DOMAINS],
+        }
     }
 
     // Into how many parts the period is divided.
-    pub fn parts(&self) -> u16
+    pub(crate) fn parts(&self) -> u16
         ensures { λ r. ⌜ r ≡ now (self .entry) .parts ⌝ }
     {
         self.parts
     }
 
-    pub fn count(&self) -> usize
+    pub(crate) fn count(&self) -> usize
         ensures { λ r. ⌜ r ≡ length (skews-of (now (self .entry))) ⌝ }
     {
         self.count
     }
 
     // The skew of this domain in parts, or none beyond the last.
-    pub fn skew(&self, domain: usize) -> Option<u16>
+    pub(crate) fn skew(&self, domain: usize) -> Option<u16>
         ensures { λ r. ⌜ r ≡ nth (skews-of (now (self .entry))) domain ⌝ }
     {
         if domain < self.count {

@@ -8,7 +8,12 @@ use crate::elements::Gate;
 use crate::faults::ChangeFault;
 
 impl Draft {
-    pub fn change_gate(&mut self, number: usize, smaller: u16, larger: u16) -> Result<(), ChangeFault>
+    pub(crate) fn change_gate(
+        &mut self,
+        number: usize,
+        smaller: u16,
+        larger: u16,
+    ) -> Result<(), ChangeFault>
         ensures { λ r. ⌜ ChangeGateCall (drafted (now (self .entry))) number smaller larger (change-code r) (drafted (now (self .exit))) ⌝ }
     {
         let Some(gate) = self.gates.lend(number) else {
@@ -21,7 +26,7 @@ impl Draft {
         Ok(())
     }
 
-    pub fn change_wire(&mut self, number: usize, delay: u16) -> Result<(), ChangeFault>
+    pub(crate) fn change_wire(&mut self, number: usize, delay: u16) -> Result<(), ChangeFault>
         ensures { λ r. ⌜ ChangeWireCall (drafted (now (self .entry))) number delay (change-code r) (drafted (now (self .exit))) ⌝ }
     {
         let Some(wire) = self.wires.lend(number) else {
@@ -31,7 +36,12 @@ impl Draft {
         Ok(())
     }
 
-    pub fn change_flip_flop(&mut self, number: usize, setup: u16, hold: i16) -> Result<(), ChangeFault>
+    pub(crate) fn change_flip_flop(
+        &mut self,
+        number: usize,
+        setup: u16,
+        hold: i16,
+    ) -> Result<(), ChangeFault>
         ensures { λ r. ⌜ ChangeFlopCall (drafted (now (self .entry))) number setup hold (change-code r) (drafted (now (self .exit))) ⌝ }
     {
         let Some(flop) = self.flops.lend(number) else {

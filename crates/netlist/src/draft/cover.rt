@@ -4,11 +4,13 @@ ghost use mathlib.Core.Bool.{true, false, _||_};
 ghost use Prim.Native.Nat.{ℕ, _<_, _≤_};
 ghost use lib.ListN.{length, getD};
 ghost use Rattle.std.specs.Orderings.{Decides};
+ghost use Rattle.std.specs.Results.{Cases};
 ghost use Rattle.circuit.specs.Sound.{is-gate, Covered};
 ghost use Rattle.netlist.specs.Figures.{place-of};
 ghost use Rattle.netlist.specs.Drafted.{drafted};
 use crate::draft::Draft;
 use crate::elements::Place;
+use crate::faults::BlockFault;
 use crate::limits::MOST_GATES;
 
 // Marks the gate that a place is, if it is one.
@@ -41,7 +43,7 @@ fn all_marked(marks: &[bool], count: usize) -> bool
 
 impl Draft {
     // Whether every gate has a wire in and a wire out. One walk over the wires and one over the gates.
-    pub fn is_joined_up(&self) -> bool
+    fn is_joined_up(&self) -> bool
         ensures { λ r. ⌜ Decides r (Covered (drafted (now (self .entry)))) ⌝ }
     {
         let mut fed = [false; MOST_GATES];
@@ -53,5 +55,16 @@ impl Draft {
         }
         let gates = self.gate_count();
         all_marked(&fed, gates) && all_marked(&drained, gates)
+    }
+
+    // Refuses a draft with an open gate.
+    pub fn close(&self) -> Result<(), BlockFault>
+        ensures { λ r. ⌜ Cases r (λ _. Covered (drafted (now (self .entry)))) (λ e. (e ≡ BlockFault.Open) × (Covered (drafted (now (self .entry))) → ⊥)) ⌝ }
+    {
+        if self.is_joined_up() {
+            Ok(())
+        } else {
+            Err(BlockFault::Open)
+        }
     }
 }

@@ -7,10 +7,9 @@ ghost use Rattle.std.specs.Results.{Cases};
 ghost use Rattle.std.specs.declared.option.Option.the-variants.{Some, None};
 ghost use Rattle.std.specs.Of.Vec.{vec-items};
 ghost use Rattle.circuit.specs.Circuit.{empty, with-domains};
-ghost use Rattle.circuit.specs.Sound.{forward};
+ghost use Rattle.circuit.specs.Sound.{SoundDomains, forward};
 ghost use Rattle.circuit.specs.Terminal.{place, known};
 ghost use Rattle.netlist.specs.Figures.{place-of, wire-of, terminal-of};
-ghost use Rattle.netlist.specs.Domains.{skews-of};
 ghost use Rattle.netlist.specs.Growth.{flop-breach, gate-breach, link-breach, wire-breach, link, more-flops, more-gates, more-wires, Grown};
 ghost use Rattle.netlist.specs.Drafted.{drafted};
 use crate::domains::DomainSet;
@@ -29,6 +28,7 @@ use crate::table::Table;
 use std::alloc::Global;
 
 const FLIP_FLOP_CLASS: u8 = 0;
+
 const GATE_CLASS: u8 = 1;
 
 // A wire between gates starts at the smaller number; any other may run as it likes.
@@ -55,10 +55,14 @@ impl Draft {
         }
     }
 
-    pub fn set_domains(&mut self, domains: DomainSet)
-        ensures { λ _. ⌜ drafted (now (self .exit)) ≡ with-domains (drafted (now (self .entry))) (domains .parts) (skews-of domains) ⌝ }
+    pub fn set_domains(&mut self, parts: u16, skews: &[u16]) -> Result<(), BlockFault>
+        ensures { λ r. ⌜ Cases r (λ _. SoundDomains parts (now (skews .entry)) × (drafted (now (self .exit)) ≡ with-domains (drafted (now (self .entry))) parts (now (skews .entry)))) (λ e. (e ≡ BlockFault.Domains) × (SoundDomains parts (now (skews .entry)) → ⊥) × (drafted (now (self .exit)) ≡ drafted (now (self .entry)))) ⌝ }
     {
+        let Some(domains) = DomainSet::new(parts, skews) else {
+            return Err(BlockFault::Domains);
+        };
         self.domains = domains;
+        Ok(())
     }
 
     pub fn add_flip_flop(&mut self, setup: u16, hold: i16) -> Result<(), BlockFault>

@@ -13,43 +13,43 @@ use crate::elements::Gate;
 use crate::elements::Wire;
 
 impl Draft {
-    pub fn domains(&self) -> DomainSet
+    pub(crate) fn domains(&self) -> DomainSet
         ensures { λ r. ⌜ (r .parts ≡ drafted (now (self .entry)) .parts) × (skews-of r ≡ drafted (now (self .entry)) .skews) ⌝ }
     {
         self.domains
     }
 
-    pub fn flip_flop_count(&self) -> usize
+    pub(crate) fn flip_flop_count(&self) -> usize
         ensures { λ r. ⌜ r ≡ length (drafted (now (self .entry)) .flops) ⌝ }
     {
         self.flops.len()
     }
 
-    pub fn gate_count(&self) -> usize
+    pub(crate) fn gate_count(&self) -> usize
         ensures { λ r. ⌜ r ≡ length (drafted (now (self .entry)) .gates) ⌝ }
     {
         self.gates.len()
     }
 
-    pub fn wire_count(&self) -> usize
+    pub(crate) fn wire_count(&self) -> usize
         ensures { λ r. ⌜ r ≡ length (drafted (now (self .entry)) .wires) ⌝ }
     {
         self.wires.len()
     }
 
-    pub fn flip_flop(&self, number: usize) -> Option<FlipFlop>
+    pub(crate) fn flip_flop(&self, number: usize) -> Option<FlipFlop>
         ensures { λ r. ⌜ mapped flop-of r ≡ nth (drafted (now (self .entry)) .flops) number ⌝ }
     {
         self.flops.get(number)
     }
 
-    pub fn gate(&self, number: usize) -> Option<Gate>
+    pub(crate) fn gate(&self, number: usize) -> Option<Gate>
         ensures { λ r. ⌜ mapped gate-of r ≡ nth (drafted (now (self .entry)) .gates) number ⌝ }
     {
         self.gates.get(number)
     }
 
-    pub fn wire(&self, number: usize) -> Option<Wire>
+    pub(crate) fn wire(&self, number: usize) -> Option<Wire>
         ensures { λ r. ⌜ mapped wire-of r ≡ nth (drafted (now (self .entry)) .wires) number ⌝ }
     {
         self.wires.get(number)

@@ -11,7 +11,7 @@ use crate::elements::Place;
 use crate::elements::Wire;
 
 impl FlipFlop {
-    pub fn new(setup: u16, hold: i16) -> FlipFlop
+    pub(crate) fn new(setup: u16, hold: i16) -> FlipFlop
         ensures { λ r. ⌜ flop-of r ≡ record { setup = setup; hold = hold } ⌝ }
     {
         FlipFlop { setup, hold }
@@ -32,7 +32,7 @@ impl FlipFlop {
 
 impl Gate {
     // A gate of these delays, or none where the smaller is above the larger.
-    pub fn new(smaller: u16, larger: u16) -> Option<Gate>
+    pub(crate) fn new(smaller: u16, larger: u16) -> Option<Gate>
         ensures { λ r. ⌜ Cases r (larger < smaller) (λ g. (smaller ≤ larger) × (gate-of g ≡ record { smaller = smaller; larger = larger })) ⌝ }
     {
         if smaller > larger {
@@ -55,7 +55,7 @@ impl Gate {
 }
 
 impl Wire {
-    pub fn new(start: Place, end: Place, delay: u16) -> Wire
+    pub(crate) fn new(start: Place, end: Place, delay: u16) -> Wire
         ensures { λ r. ⌜ wire-of r ≡ record { start = place-of start; end = place-of end; delay = delay } ⌝ }
     {
         Wire { start, end, delay }
@@ -80,7 +80,7 @@ impl Wire {
     }
 
     // The same wire with another delay.
-    pub fn set_delay(&mut self, delay: u16)
+    pub(crate) fn set_delay(&mut self, delay: u16)
         ensures { λ _. ⌜ wire-of (now (self .exit)) ≡ record { start = wire-of (now (self .entry)) .start; end = wire-of (now (self .entry)) .end; delay = delay } ⌝ }
     {
         self.delay = delay;

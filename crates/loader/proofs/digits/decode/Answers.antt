@@ -18,8 +18,9 @@ pub returns-then-count-lt2 : need.returns-then-count-lt2
 returns-then-count-lt2 c =
     let line = c .args .line .now in
     elim (c .then-count-lt2 .came) [
-      then-count-lt2·by·then-count-lt2 w ↦ held-short line (w .if-count-lt2 .taken)
-    | then-count-lt2·by·else-count-lt2·then-line-count-ne-LINE-FEED w ↦ held-unfed line (w .if-count-lt2 .left) (w .if-line-count-ne-LINE-FEED .taken) ]
+      | then-count-lt2·by·then-count-lt2 w ↦ held-short line (w .if-count-lt2 .taken)
+      | then-count-lt2·by·else-count-lt2·then-line-count-ne-LINE-FEED w ↦ held-unfed line (w .if-count-lt2 .left) (w .if-line-count-ne-LINE-FEED .taken)
+    ]
 
 pub returns : need.returns
 returns c =

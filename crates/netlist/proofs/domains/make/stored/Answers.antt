@@ -12,9 +12,10 @@ loop-k-again c =
     let k = c .loop-k .k in
     let s = c .args .skews .now in
     let within : k < length s = search needs in
-    let room : k < length (c .loop-k .all) = omega (arith, c .loop-k .inv .0) in
-    (length-set (c .loop-k .all) k (getD s k 0) ∙ c .loop-k .inv .0,
-     take-more-set (c .loop-k .all) k (getD s k 0) room ∙ (ap (λ xs. xs ++ (getD s k 0 ∷ [])) (c .loop-k .inv .1) ∙ sym (take-more s k 0 within)))
+    let room : k < length (c .loop-k .all) = omega (arith, c .loop-k .inv .0) in (
+      length-set (c .loop-k .all) k (getD s k 0) ∙ c .loop-k .inv .0,
+      take-more-set (c .loop-k .all) k (getD s k 0) room ∙ (ap (λ xs. xs ++ (getD s k 0 ∷ [])) (c .loop-k .inv .1) ∙ sym (take-more s k 0 within)),
+    )
 
 pub returns : need.returns
 returns c =

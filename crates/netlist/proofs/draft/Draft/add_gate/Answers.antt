@@ -28,17 +28,23 @@ ghost-self c =
     let flops = length (drafted d .flops) in
     let ok = isOk (c .push .result) in
     let g = c .in-Some .gate in
-    let room : length (drafted d .gates) < most-gates = omega (arith, c .gate-count .ensures) in
-    (d .«few_flops»,
-    (pushed-few gate-of xs ys g ok most-gates (c .push .ensures) room,
-    (d .«few_wires»,
-    (wired-more flops flops (length (map gate-of xs)) (length (map gate-of ys)) (omega arith) (pushed-longer gate-of xs ys g ok (c .push .ensures)) (drafted d .wires) (d .wired), tt))))
+    let room : length (drafted d .gates) < most-gates = omega (arith, c .gate-count .ensures) in (
+      d .«few_flops»,
+      (
+        pushed-few gate-of xs ys g ok most-gates (c .push .ensures) room,
+        (
+          d .«few_wires»,
+          (wired-more flops flops (length (map gate-of xs)) (length (map gate-of ys)) (omega arith) (pushed-longer gate-of xs ys g ok (c .push .ensures)) (drafted d .wires) (d .wired), tt),
+        ),
+      ),
+    )
 
 pub returns : need.returns
 returns c =
     let d = c .args .self .now in
     let n = length (drafted d .gates) in
-    let room : n < most-gates = omega (arith, c .gate-count .ensures) in
-    (passed (ltb n most-gates) Surplus _ None (lt-ltb n most-gates room) (passed (leb (c .args .smaller) (c .args .larger)) Delays None None (le-leb (c .args .smaller) (c .args .larger) (c .in-Some .ensures tt .0)) refl),
-    ap (with-gates (drafted d))
-    (pushed-map gate-of (vec-items (d .gates .items)) (vec-items (c .push .last .self .items)) (c .in-Some .gate) (record { smaller = c .args .smaller; larger = c .args .larger }) (c .in-Continue-push .ensures tt) (c .in-Some .ensures tt .1)))
+    let room : n < most-gates = omega (arith, c .gate-count .ensures) in (
+      passed (ltb n most-gates) Surplus _ None (lt-ltb n most-gates room) (passed (leb (c .args .smaller) (c .args .larger)) Delays None None (le-leb (c .args .smaller) (c .args .larger) (c .in-Some .ensures tt .0)) refl),
+      ap (with-gates (drafted d))
+          (pushed-map gate-of (vec-items (d .gates .items)) (vec-items (c .push .last .self .items)) (c .in-Some .gate) (record { smaller = c .args .smaller; larger = c .args .larger }) (c .in-Continue-push .ensures tt) (c .in-Some .ensures tt .1)),
+    )

@@ -30,17 +30,24 @@ ghost-self c =
     let ok = isOk (c .push .result) in
     let made = c .in-Continue-wire .ensures tt in
     let test = runs (length (drafted d .flops)) (length (drafted d .gates)) in
-    let room : length (drafted d .wires) < most-wires = omega (arith, c .wire-count .ensures) in
-    (d .«few_flops», (d .«few_gates»,
-    (pushed-few wire-of xs ys w ok most-wires (c .push .ensures) room,
-    (pushed-every wire-of xs ys w test ok (c .push .ensures) (d .wired) (ap test (made .1) ∙ linked-runs (drafted d) (terminal-of (c .args .start)) (terminal-of (c .args .end)) (c .args .delay) (made .0)), tt))))
+    let room : length (drafted d .wires) < most-wires = omega (arith, c .wire-count .ensures) in (
+      d .«few_flops»,
+      (
+        d .«few_gates»,
+        (
+          pushed-few wire-of xs ys w ok most-wires (c .push .ensures) room,
+          (pushed-every wire-of xs ys w test ok (c .push .ensures) (d .wired) (ap test (made .1) ∙ linked-runs (drafted d) (terminal-of (c .args .start)) (terminal-of (c .args .end)) (c .args .delay) (made .0)), tt),
+        ),
+      ),
+    )
 
 pub returns : need.returns
 returns c =
     let d = c .args .self .now in
     let n = length (drafted d .wires) in
     let made = c .in-Continue-wire .ensures tt in
-    let room : n < most-wires = omega (arith, c .wire-count .ensures) in
-    (passed (ltb n most-wires) Surplus (link-breach (drafted d) (terminal-of (c .args .start)) (terminal-of (c .args .end))) None (lt-ltb n most-wires room) (made .0),
-    ap (with-wires (drafted d))
-    (pushed-map wire-of (vec-items (d .wires .items)) (vec-items (c .push .last .self .items)) (c .in-Continue-wire .wire) (link (terminal-of (c .args .start)) (terminal-of (c .args .end)) (c .args .delay)) (c .in-Continue-push .ensures tt) (made .1)))
+    let room : n < most-wires = omega (arith, c .wire-count .ensures) in (
+      passed (ltb n most-wires) Surplus (link-breach (drafted d) (terminal-of (c .args .start)) (terminal-of (c .args .end))) None (lt-ltb n most-wires room) (made .0),
+      ap (with-wires (drafted d))
+          (pushed-map wire-of (vec-items (d .wires .items)) (vec-items (c .push .last .self .items)) (c .in-Continue-wire .wire) (link (terminal-of (c .args .start)) (terminal-of (c .args .end)) (c .args .delay)) (c .in-Continue-push .ensures tt) (made .1)),
+    )

@@ -28,9 +28,16 @@ pub ghost-self-2 : need.ghost-self-2
 ghost-self-2 c =
     let d = c .args .self .now in
     let xs = vec-items (d .flops .items) in
-    let wires : ℕ → Type 0 = λ n. every (runs n (length (drafted d .gates))) (drafted d .wires) ≡ true in
-    (lent-few flop-of xs (c .args .number) (c .new .result) most-flops (d .«few_flops»), (d .«few_gates», (d .«few_wires»,
-    (subst wires (sym (lent-length flop-of xs (c .args .number) (c .new .result))) (d .wired), tt))))
+    let wires : ℕ → Type 0 = λ n. every (runs n (length (drafted d .gates))) (drafted d .wires) ≡ true in (
+      lent-few flop-of xs (c .args .number) (c .new .result) most-flops (d .«few_flops»),
+      (
+        d .«few_gates»,
+        (
+          d .«few_wires»,
+          (subst wires (sym (lent-length flop-of xs (c .args .number) (c .new .result))) (d .wired), tt),
+        ),
+      ),
+    )
 
 pub returns : need.returns
 returns c =

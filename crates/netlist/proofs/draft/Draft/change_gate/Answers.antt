@@ -27,9 +27,16 @@ pub ghost-self-in-rest-new : need.ghost-self-in-rest-new
 ghost-self-in-rest-new c =
     let d = c .args .self .now in
     let xs = vec-items (d .gates .items) in
-    let wires : ℕ → Type 0 = λ n. every (runs (length (drafted d .flops)) n) (drafted d .wires) ≡ true in
-    (d .«few_flops», (lent-few gate-of xs (c .args .number) (c .in-Some .gate .now) most-gates (d .«few_gates»), (d .«few_wires»,
-    (subst wires (sym (lent-length gate-of xs (c .args .number) (c .in-Some .gate .now))) (d .wired), tt))))
+    let wires : ℕ → Type 0 = λ n. every (runs (length (drafted d .flops)) n) (drafted d .wires) ≡ true in (
+      d .«few_flops»,
+      (
+        lent-few gate-of xs (c .args .number) (c .in-Some .gate .now) most-gates (d .«few_gates»),
+        (
+          d .«few_wires»,
+          (subst wires (sym (lent-length gate-of xs (c .args .number) (c .in-Some .gate .now))) (d .wired), tt),
+        ),
+      ),
+    )
 
 pub returns-in-rest-new : need.returns-in-rest-new
 returns-in-rest-new c =
@@ -43,9 +50,16 @@ pub ghost-self-2 : need.ghost-self-2
 ghost-self-2 c =
     let d = c .args .self .now in
     let xs = vec-items (d .gates .items) in
-    let wires : ℕ → Type 0 = λ n. every (runs (length (drafted d .flops)) n) (drafted d .wires) ≡ true in
-    (d .«few_flops», (lent-few gate-of xs (c .args .number) (c .in-Some-new .changed) most-gates (d .«few_gates»), (d .«few_wires»,
-    (subst wires (sym (lent-length gate-of xs (c .args .number) (c .in-Some-new .changed))) (d .wired), tt))))
+    let wires : ℕ → Type 0 = λ n. every (runs (length (drafted d .flops)) n) (drafted d .wires) ≡ true in (
+      d .«few_flops»,
+      (
+        lent-few gate-of xs (c .args .number) (c .in-Some-new .changed) most-gates (d .«few_gates»),
+        (
+          d .«few_wires»,
+          (subst wires (sym (lent-length gate-of xs (c .args .number) (c .in-Some-new .changed))) (d .wired), tt),
+        ),
+      ),
+    )
 
 pub returns : need.returns
 returns c =

@@ -31,9 +31,16 @@ ghost-self-2 c =
     let n = c .args .number in
     let new = c .set-delay .last .self in
     let found = c .in-Some .ensures tt in
-    let test = runs (length (drafted d .flops)) (length (drafted d .gates)) in
-    (d .«few_flops», (d .«few_gates», (lent-few wire-of xs n new most-wires (d .«few_wires»),
-    (lent-every wire-of xs n new test (d .wired) (ap test (c .set-delay .ensures) ∙ lent-passes wire-of xs n (c .in-Some .wire .now) test (ltb-true n (length xs) (sym (found .0))) (found .1) (d .wired)), tt))))
+    let test = runs (length (drafted d .flops)) (length (drafted d .gates)) in (
+      d .«few_flops»,
+      (
+        d .«few_gates»,
+        (
+          lent-few wire-of xs n new most-wires (d .«few_wires»),
+          (lent-every wire-of xs n new test (d .wired) (ap test (c .set-delay .ensures) ∙ lent-passes wire-of xs n (c .in-Some .wire .now) test (ltb-true n (length xs) (sym (found .0))) (found .1) (d .wired)), tt),
+        ),
+      ),
+    )
 
 pub returns : need.returns
 returns c =
