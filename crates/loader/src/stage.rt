@@ -25,16 +25,16 @@ impl Stage {
     pub fn advance(&mut self, kind: Kind) -> Result<(), LineFault>
         ensures { λ r. ⌜ Cases r (λ _. (may-stand (stage-number (now (self .entry))) (kind-number kind) ≡ true) × (stage-number (now (self .exit)) ≡ kind-number kind)) (λ e. Misplaced e (may-stand (stage-number (now (self .entry))) (kind-number kind))) ⌝ }
     {
-        match (*self, kind) {
-            (Stage::Start, Kind::Domains) => *self = Stage::Domains,
-            (Stage::Domains | Stage::FlipFlops, Kind::FlipFlop) => *self = Stage::FlipFlops,
-            (Stage::Domains | Stage::FlipFlops | Stage::Gates, Kind::Gate) => *self = Stage::Gates,
-            (Stage::Domains | Stage::FlipFlops | Stage::Gates | Stage::Wires, Kind::Wire) => *self =
+        *self = match (*self, kind) {
+            (Stage::Start, Kind::Domains) => Stage::Domains,
+            (Stage::Domains | Stage::FlipFlops, Kind::FlipFlop) => Stage::FlipFlops,
+            (Stage::Domains | Stage::FlipFlops | Stage::Gates, Kind::Gate) => Stage::Gates,
+            (Stage::Domains | Stage::FlipFlops | Stage::Gates | Stage::Wires, Kind::Wire) =>
                 Stage::Wires,
-            (Stage::Domains | Stage::FlipFlops | Stage::Gates | Stage::Wires, Kind::End) => *self =
+            (Stage::Domains | Stage::FlipFlops | Stage::Gates | Stage::Wires, Kind::End) =>
                 Stage::End,
             _ => return Err(LineFault::Refused(Ground::Order)),
-        }
+        };
         Ok(())
     }
 }
