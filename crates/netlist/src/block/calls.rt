@@ -3,13 +3,11 @@ ghost use mathlib.Core.Path.{_≡_};
 ghost use lib.ListN.{length};
 ghost use Rattle.std.specs.Finite.{nth};
 ghost use Rattle.std.specs.Options.{mapped};
-ghost use Rattle.std.specs.Results.{Cases};
 ghost use Rattle.circuit.specs.Circuit.{empty};
-ghost use Rattle.circuit.specs.Sound.{Sound, Covered};
+ghost use Rattle.circuit.specs.Sound.{Sound};
 ghost use Rattle.netlist.specs.Figures.{flop-of, gate-of, wire-of};
 ghost use Rattle.netlist.specs.Changes.{change-code, ChangeGateCall, ChangeWireCall, ChangeFlopCall};
-ghost use Rattle.netlist.specs.Drafted.{drafted};
-ghost use Rattle.netlist.specs.Circuits.{circuit};
+ghost use Rattle.netlist.specs.Circuits.{circuit, FinishCall};
 use crate::block::Block;
 use crate::draft::Draft;
 use crate::elements::FlipFlop;
@@ -31,7 +29,7 @@ impl Block {
 
     // The block of a finished draft, unless a gate lacks a wire in or a wire out.
     pub fn of(draft: Draft) -> Result<Block, BlockFault>
-        ensures { λ r. ⌜ Cases r (λ b. circuit b ≡ drafted draft) (λ e. (e ≡ BlockFault.Open) × (Covered (drafted draft) → ⊥)) ⌝ }
+        ensures { λ r. ⌜ FinishCall draft r ⌝ }
     {
         draft.close()?;
         Ok(Block { draft })

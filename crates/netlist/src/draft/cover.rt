@@ -4,9 +4,9 @@ ghost use mathlib.Core.Bool.{true, false, _||_};
 ghost use Prim.Native.Nat.{ℕ, _<_, _≤_};
 ghost use lib.ListN.{length, getD};
 ghost use Rattle.std.specs.Orderings.{Decides};
-ghost use Rattle.std.specs.Results.{Cases};
 ghost use Rattle.circuit.specs.Sound.{is-gate, Covered};
 ghost use Rattle.netlist.specs.Figures.{place-of};
+ghost use Rattle.netlist.specs.Growth.{CloseCall};
 ghost use Rattle.netlist.specs.Drafted.{drafted};
 use crate::draft::Draft;
 use crate::elements::Place;
@@ -59,7 +59,7 @@ impl Draft {
 
     // Refuses a draft with an open gate.
     pub fn close(&self) -> Result<(), BlockFault>
-        ensures { λ r. ⌜ Cases r (λ _. Covered (drafted (now (self .entry)))) (λ e. (e ≡ BlockFault.Open) × (Covered (drafted (now (self .entry))) → ⊥)) ⌝ }
+        ensures { λ r. ⌜ CloseCall (drafted (now (self .entry))) r ⌝ }
     {
         if self.is_joined_up() {
             Ok(())

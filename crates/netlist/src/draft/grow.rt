@@ -1,16 +1,9 @@
 // How a draft takes its elements, one by one.
 ghost use mathlib.Core.Path.{_≡_};
-ghost use mathlib.Core.Bool.{true, false};
-ghost use mathlib.Core.List.{map};
-ghost use lib.ListN.{length};
-ghost use Rattle.std.specs.Results.{Cases};
-ghost use Rattle.std.specs.declared.option.Option.the-variants.{Some, None};
-ghost use Rattle.std.specs.Of.Vec.{vec-items};
-ghost use Rattle.circuit.specs.Circuit.{empty, with-domains};
-ghost use Rattle.circuit.specs.Sound.{SoundDomains, forward};
-ghost use Rattle.circuit.specs.Terminal.{place, known};
-ghost use Rattle.netlist.specs.Figures.{place-of, wire-of, terminal-of};
-ghost use Rattle.netlist.specs.Growth.{flop-breach, gate-breach, link-breach, wire-breach, link, more-flops, more-gates, more-wires, Grown};
+ghost use Rattle.circuit.specs.Circuit.{empty};
+ghost use Rattle.circuit.specs.Sound.{forward};
+ghost use Rattle.netlist.specs.Figures.{place-of, terminal-of};
+ghost use Rattle.netlist.specs.Growth.{SetDomainsCall, AddFlopCall, AddGateCall, AddWireCall, Resolved, Linked};
 ghost use Rattle.netlist.specs.Drafted.{drafted};
 use crate::domains::DomainSet;
 use crate::draft::Draft;
@@ -56,7 +49,7 @@ impl Draft {
     }
 
     pub fn set_domains(&mut self, parts: u16, skews: &[u16]) -> Result<(), BlockFault>
-        ensures { λ r. ⌜ Cases r (λ _. SoundDomains parts (now (skews .entry)) × (drafted (now (self .exit)) ≡ with-domains (drafted (now (self .entry))) parts (now (skews .entry)))) (λ e. (e ≡ BlockFault.Domains) × (SoundDomains parts (now (skews .entry)) → ⊥) × (drafted (now (self .exit)) ≡ drafted (now (self .entry)))) ⌝ }
+        ensures { λ r. ⌜ SetDomainsCall (drafted (now (self .entry))) parts (now (skews .entry)) r (drafted (now (self .exit))) ⌝ }
     {
         let Some(domains) = DomainSet::new(parts, skews) else {
             return Err(BlockFault::Domains);
@@ -66,7 +59,7 @@ impl Draft {
     }
 
     pub fn add_flip_flop(&mut self, setup: u16, hold: i16) -> Result<(), BlockFault>
-        ensures { λ r. ⌜ Grown r (flop-breach (drafted (now (self .entry)))) (drafted (now (self .entry))) (more-flops (drafted (now (self .entry))) (record { setup = setup; hold = hold })) (drafted (now (self .exit))) ⌝ }
+        ensures { λ r. ⌜ AddFlopCall (drafted (now (self .entry))) setup hold r (drafted (now (self .exit))) ⌝ }
     {
         if self.flip_flop_count() >= MOST_FLIP_FLOPS {
             return Err(BlockFault::Surplus);
@@ -76,7 +69,7 @@ impl Draft {
     }
 
     pub fn add_gate(&mut self, smaller: u16, larger: u16) -> Result<(), BlockFault>
-        ensures { λ r. ⌜ Grown r (gate-breach (drafted (now (self .entry))) (record { smaller = smaller; larger = larger })) (drafted (now (self .entry))) (more-gates (drafted (now (self .entry))) (record { smaller = smaller; larger = larger })) (drafted (now (self .exit))) ⌝ }
+        ensures { λ r. ⌜ AddGateCall (drafted (now (self .entry))) smaller larger r (drafted (now (self .exit))) ⌝ }
     {
         if self.gate_count() >= MOST_GATES {
             return Err(BlockFault::Surplus);
@@ -90,7 +83,7 @@ impl Draft {
 
     // The place that a terminal names.
     fn place(&self, terminal: Terminal) -> Result<Place, BlockFault>
-        ensures { λ r. ⌜ Cases r (λ p. (known (length (drafted (now (self .entry)) .flops)) (length (drafted (now (self .entry)) .gates)) (terminal-of terminal) ≡ true) × (place-of p ≡ place (terminal-of terminal))) (λ e. (known (length (drafted (now (self .entry)) .flops)) (length (drafted (now (self .entry)) .gates)) (terminal-of terminal) ≡ false) × (e ≡ BlockFault.Absent)) ⌝ }
+        ensures { λ r. ⌜ Resolved (drafted (now (self .entry))) (terminal-of terminal) r ⌝ }
     {
         let number = terminal.number as usize;
         if terminal.class == FLIP_FLOP_CLASS && number < self.flip_flop_count() {
@@ -104,7 +97,7 @@ impl Draft {
 
     // A wire between the places that two terminals name.
     fn link(&self, start: Terminal, end: Terminal, delay: u16) -> Result<Wire, BlockFault>
-        ensures { λ r. ⌜ Cases r (λ w. (link-breach (drafted (now (self .entry))) (terminal-of start) (terminal-of end) ≡ None) × (wire-of w ≡ link (terminal-of start) (terminal-of end) delay)) (λ e. link-breach (drafted (now (self .entry))) (terminal-of start) (terminal-of end) ≡ Some e) ⌝ }
+        ensures { λ r. ⌜ Linked (drafted (now (self .entry))) (terminal-of start) (terminal-of end) delay r ⌝ }
     {
         let from = self.place(start)?;
         let to = self.place(end)?;
@@ -115,7 +108,7 @@ impl Draft {
     }
 
     pub fn add_wire(&mut self, start: Terminal, end: Terminal, delay: u16) -> Result<(), BlockFault>
-        ensures { λ r. ⌜ Grown r (wire-breach (drafted (now (self .entry))) (terminal-of start) (terminal-of end)) (drafted (now (self .entry))) (more-wires (drafted (now (self .entry))) (link (terminal-of start) (terminal-of end) delay)) (drafted (now (self .exit))) ⌝ }
+        ensures { λ r. ⌜ AddWireCall (drafted (now (self .entry))) (terminal-of start) (terminal-of end) delay r (drafted (now (self .exit))) ⌝ }
     {
         if self.wire_count() >= MOST_WIRES {
             return Err(BlockFault::Surplus);
