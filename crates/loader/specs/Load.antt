@@ -1,14 +1,18 @@
 -- What loading a text answers, and the circuit that it leaves in the caller's block.
 use mathlib.Core.Path.{_≡_}
-use mathlib.Core.List.{List}
-use Prim.Native.Nat.{ℕ}
+use mathlib.Core.List.{List, _∷_}
+use Prim.Native.Nat.{ℕ, _-_, _<_, _≤_}
+use lib.ListN.{length, take, drop}
 use Rattle.std.specs.declared.option.Option.{Option}
 use Rattle.std.specs.declared.option.Option.the-variants.{Some, None}
 use Rattle.std.specs.declared.result.Result.{Result}
 use Rattle.std.specs.declared.result.Result.the-variants.{Ok, Err}
 use Rattle.circuit.specs.Circuit.{Circuit, empty}
 use Rattle.dumps.specs.Ground.{number-of}
+use Rattle.dumps.specs.Spelling.{lines}
 use Rattle.dumps.specs.Verdict.{Verdict, accepted, refused, Judged}
+use Rattle.netlist.specs.declared.block.Block.{Block}
+use Rattle.netlist.specs.Circuits.{circuit}
 use Rattle.loader.specs.declared.faults.LineFault.{LineFault}
 use Rattle.loader.specs.declared.faults.LineFault.the-variants as line
 use Rattle.loader.specs.declared.text.LoadError.{LoadError}
@@ -50,3 +54,14 @@ with-line line.Memory at = Memory
 abbrev pub Refusing : LoadError → Verdict → Type 0
 Refusing (Refused ground at) verdict = verdict ≡ refused (number-of ground) at
 Refusing Memory verdict = Unit {0}
+
+-- the block of an accepted text, or the error of a refused one
+abbrev pub TextRead : Result Block LoadError → Verdict → Type 0
+TextRead (Ok b) verdict = verdict ≡ accepted (circuit b)
+TextRead (Err e) verdict = Refusing e verdict
+
+-- the first line of what is left of a text runs from here to there
+pub record FirstLine (text : List ℕ) (start end : ℕ) : Type 0 where
+  pub some-byte : start < end
+  pub within : end ≤ length text
+  pub cut : lines (drop start text) ≡ take (end - start) (drop start text) ∷ lines (drop end text)

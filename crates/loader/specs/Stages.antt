@@ -1,8 +1,11 @@
 -- What a stage means: the kind of the last frame, 0 before the first.
 use mathlib.Core.Path.{_≡_}
-use mathlib.Core.Bool.{Bool, false}
+use mathlib.Core.Bool.{true, false}
 use Prim.Native.Nat.{ℕ}
+use Rattle.std.specs.declared.result.Result.{Result}
+use Rattle.std.specs.declared.result.Result.the-variants.{Ok, Err}
 use Rattle.dumps.specs.declared.ground.Ground.the-variants.{Order}
+use Rattle.dumps.specs.Reading.{may-stand}
 use Rattle.loader.specs.declared.faults.LineFault.{LineFault}
 use Rattle.loader.specs.declared.faults.LineFault.the-variants.{Refused}
 use Rattle.loader.specs.declared.stage.Stage.{Stage}
@@ -16,6 +19,7 @@ stage-number Gates = 3
 stage-number Wires = 4
 stage-number End = 5
 
--- a frame that may not stand is out of its order
-abbrev pub Misplaced : LineFault → Bool → Type 0
-Misplaced fault may = (fault ≡ Refused Order) × (may ≡ false)
+-- the stage moves to the kind of a frame that may stand; any other is out of its order
+abbrev pub Advanced : {X : Type 0} → ℕ → ℕ → Result X LineFault → ℕ → Type 0
+Advanced before kind (Ok x) after = (may-stand before kind ≡ true) × (after ≡ kind)
+Advanced before kind (Err e) after = (e ≡ Refused Order) × (may-stand before kind ≡ false)

@@ -1,16 +1,9 @@
 // The frames of a dump, put together line by line.
 ghost use mathlib.Core.Path.{_≡_};
-ghost use mathlib.Core.Logic.{_⊎_};
-ghost use Rattle.std.specs.Results.{Cases};
-ghost use Rattle.std.specs.declared.option.Option.the-variants.{None};
-ghost use Rattle.std.specs.declared.result.Result.the-variants.{Ok};
-ghost use Rattle.dumps.specs.Reading.{breach, grown, begin, step};
-ghost use Rattle.circuit.specs.Sound.{Covered};
-ghost use Rattle.netlist.specs.Circuits.{circuit};
+ghost use Rattle.dumps.specs.Reading.{begin};
 ghost use Rattle.netlist.specs.Drafted.{drafted};
 ghost use Rattle.loader.specs.Frames.{frame-of};
-ghost use Rattle.loader.specs.Lines.{Breached, Stopped};
-ghost use Rattle.loader.specs.Assemblies.{state-of};
+ghost use Rattle.loader.specs.Assemblies.{state-of, FramePut, LineTaken, Finished};
 use crate::faults::LineFault;
 use crate::faults::LineFaultFromBlock;
 use crate::faults::LineFaultFromFrame;
@@ -24,7 +17,7 @@ use std::alloc::Global;
 
 // Puts one frame into a draft, whatever its order.
 fn put(draft: &mut Draft, frame: Frame) -> Result<(), LineFault>
-    ensures { λ r. ⌜ Cases r (λ _. (breach (drafted (now (draft .entry))) (frame-of frame) ≡ None) × (drafted (now (draft .exit)) ≡ grown (drafted (now (draft .entry))) (frame-of frame))) (λ e. Breached e (breach (drafted (now (draft .entry))) (frame-of frame))) ⌝ }
+    ensures { λ r. ⌜ FramePut (drafted (now (draft .entry))) (frame-of frame) r (drafted (now (draft .exit))) ⌝ }
 {
     match frame {
         Frame::Domains { parts, skews } => draft.set_domains(parts, &skews)?,
@@ -55,7 +48,7 @@ impl Assembly {
 
     // Takes the next line.
     pub fn take(&mut self, line: &[u8], heap: Global) -> Result<(), LineFault>
-        ensures { λ r. ⌜ Cases r (λ _. step (state-of (now (self .entry))) (now (line .entry)) ≡ Ok (state-of (now (self .exit)))) (λ e. Stopped e (step (state-of (now (self .entry))) (now (line .entry)))) ⌝ }
+        ensures { λ r. ⌜ LineTaken (state-of (now (self .entry))) (now (line .entry)) r (state-of (now (self .exit))) ⌝ }
     {
         let frame = read_frame(line, heap)?;
         self.stage.advance(frame.kind())?;
@@ -64,7 +57,7 @@ impl Assembly {
 
     // The block, if the end has come.
     pub fn finish(self) -> Result<Block, LineFault>
-        ensures { λ r. ⌜ Cases r (λ b. (state-of self .reached ≡ 5) × (circuit b ≡ state-of self .circuit)) (λ e. ((state-of self .reached ≡ 5 → ⊥) × (e ≡ LineFault.Refused Ground.Order)) ⊎ ((state-of self .reached ≡ 5) × (Covered (state-of self .circuit) → ⊥))) ⌝ }
+        ensures { λ r. ⌜ Finished (state-of self) r ⌝ }
     {
         let Assembly { stage, draft } = self;
         match stage {

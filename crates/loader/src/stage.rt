@@ -1,10 +1,6 @@
 // The order of frames: the stage that a dump has reached decides with the kind of the next frame whether it may stand.
-ghost use mathlib.Core.Path.{_≡_};
-ghost use mathlib.Core.Bool.{true, false};
-ghost use Rattle.std.specs.Results.{Cases};
-ghost use Rattle.dumps.specs.Reading.{may-stand};
 ghost use Rattle.loader.specs.Frames.{kind-number};
-ghost use Rattle.loader.specs.Stages.{stage-number, Misplaced};
+ghost use Rattle.loader.specs.Stages.{stage-number, Advanced};
 use crate::faults::LineFault;
 use crate::frame::Kind;
 use dumps::Ground;
@@ -23,7 +19,7 @@ pub enum Stage {
 impl Stage {
     // Moves on over a frame of this kind.
     pub fn advance(&mut self, kind: Kind) -> Result<(), LineFault>
-        ensures { λ r. ⌜ Cases r (λ _. (may-stand (stage-number (now (self .entry))) (kind-number kind) ≡ true) × (stage-number (now (self .exit)) ≡ kind-number kind)) (λ e. Misplaced e (may-stand (stage-number (now (self .entry))) (kind-number kind))) ⌝ }
+        ensures { λ r. ⌜ Advanced (stage-number (now (self .entry))) (kind-number kind) r (stage-number (now (self .exit))) ⌝ }
     {
         *self = match (*self, kind) {
             (Stage::Start, Kind::Domains) => Stage::Domains,

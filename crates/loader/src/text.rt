@@ -1,14 +1,10 @@
 // The whole text: its lines in turn, and the block or the refusal at the end.
 ghost use mathlib.Core.Path.{_≡_};
-ghost use mathlib.Core.List.{_∷_};
-ghost use Prim.Native.Nat.{_-_, _<_, _≤_};
-ghost use lib.ListN.{length, take, drop};
-ghost use Rattle.std.specs.Results.{Cases};
-ghost use Rattle.dumps.specs.Spelling.{lines};
-ghost use Rattle.dumps.specs.Verdict.{accepted};
+ghost use Prim.Native.Nat.{_<_};
+ghost use lib.ListN.{length};
 ghost use Rattle.dumps.specs.Reading.{judge};
 ghost use Rattle.netlist.specs.Circuits.{circuit};
-ghost use Rattle.loader.specs.Load.{with-line, error-number, error-line, load-answer, LoadCall, Refusing};
+ghost use Rattle.loader.specs.Load.{with-line, error-number, error-line, load-answer, LoadCall, TextRead, FirstLine};
 use crate::assembly::Assembly;
 use crate::faults::LineFault;
 use dumps::Ground;
@@ -64,7 +60,7 @@ impl LineFault {
 // Where the line that begins at `start` ends, past its line feed if it has one.
 fn line_end(text: &[u8], start: usize) -> usize
     requires { ⌜ start < length (now text) ⌝ }
-    ensures { λ r. ⌜ (start < r) × (r ≤ length (now (text .entry))) × (lines (drop start (now (text .entry))) ≡ take (r - start) (drop start (now (text .entry))) ∷ lines (drop r (now (text .entry)))) ⌝ }
+    ensures { λ r. ⌜ FirstLine (now (text .entry)) start r ⌝ }
 {
     for at in start..text.len() {
         if text[at] == LINE_FEED {
@@ -76,7 +72,7 @@ fn line_end(text: &[u8], start: usize) -> usize
 
 // The block that a text writes.
 fn read(text: &[u8], heap: Global) -> Result<Block, LoadError>
-    ensures { λ r. ⌜ Cases r (λ b. judge (now (text .entry)) ≡ accepted (circuit b)) (λ e. Refusing e (judge (now (text .entry)))) ⌝ }
+    ensures { λ r. ⌜ TextRead r (judge (now (text .entry))) ⌝ }
 {
     let mut assembly = Assembly::new(heap);
     let mut start = 0;

@@ -11,10 +11,10 @@ returns-then-text-at-eq-LINE-FEED c =
     let at = c .loop-at .at in
     let from : c .args .start ≤ at = search needs in
     let within : at < length text = search needs in
-    (omega arith, omega arith, line-cut text (c .args .start) at from within (c .loop-at .inv) (c .if-text-at-eq-LINE-FEED .taken))
+    record { some-byte = omega arith; within = omega arith; cut = line-cut text (c .args .start) at from within (c .loop-at .inv) (c .if-text-at-eq-LINE-FEED .taken) }
 
 pub returns : need.returns
 returns c =
     let text = c .args .text .now in
     let all : length text ≤ c .loop-at .at = search needs in
-    (c .pre, omega arith, line-rest text (c .args .start) (c .pre) (λ k s l. c .loop-at .inv k s (omega arith)))
+    record { some-byte = c .pre; within = omega arith; cut = line-rest text (c .args .start) (c .pre) (λ k s l. c .loop-at .inv k s (omega arith)) }

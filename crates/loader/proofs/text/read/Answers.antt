@@ -31,8 +31,8 @@ loop-start-again c =
     let cut = length-take (end - start) (drop start text) in
     let short = min-le-left (end - start) (length (drop start text)) in (
       omega (arith, inv .0, taken-long s t line taken, cut, short),
-      first .1,
-      inv .2 ∙ (ap (run s n) (first .2) ∙ run-on s t n line (lines (drop end text)) taken),
+      first .within,
+      inv .2 ∙ (ap (run s n) (first .cut) ∙ run-on s t n line (lines (drop end text)) taken),
       taken-covered s t line taken,
     )
 
