@@ -6,7 +6,6 @@ use lib.Chars.{codes}
 use lib.ListN.{length}
 use Rattle.std.specs.Written.{decimal}
 use Rattle.std.specs.shelf.Lists.{joined}
-use Rattle.circuit.specs.Circuit.{Circuit}
 use Rattle.dumps.specs.Ground.{number-of, reason}
 use Rattle.loader.specs.declared.text.LoadError.{LoadError}
 use Rattle.loader.specs.declared.text.LoadError.the-variants.{Refused, Memory}

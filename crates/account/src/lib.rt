@@ -14,6 +14,8 @@ use std::alloc::Global;
 // A longer text is refused unread.
 pub const MOST_BYTES: usize = 65536;
 
+const TOO_LONG: &str = "refused 20: more than 65536 bytes\n";
+
 // The skews of a block, each after a blank.
 fn skew_list(block: &Block, heap: Global) -> Result<String, AllocError>
     ensures { λ r. ⌜ made r (λ s. string-bytes s ≡ skew-words (circuit (now (block .entry)) .skews)) ⌝ }
@@ -61,7 +63,7 @@ pub fn account(text: &[u8], heap: Global) -> Result<String, AllocError>
     ensures { λ r. ⌜ made r (λ s. Account (now (text .entry)) (string-bytes s)) ⌝ }
 {
     if text.len() > MOST_BYTES {
-        return String::from_str(heap, "refused 20: more than 65536 bytes\n");
+        return String::from_str(heap, TOO_LONG);
     }
     let mut block = Block::new(heap);
     match load(text, heap, &mut block) {

@@ -1,9 +1,8 @@
 -- Wires that run between places that exist.
 use mathlib.Core.Path.{_≡_}
-use mathlib.Core.Bool.{Bool, true, _&&_}
+use mathlib.Core.Bool.{true, _&&_}
 use mathlib.Core.List.{List}
 use Prim.Native.Nat.{ℕ, _≤_}
-use lib.Dec.{ltb}
 use native.Mathlib.Omega.{arith}
 use Rattle.std.proofs.shelf.Tests.{and-parts, and-from, ltb-true, lt-ltb}
 use Rattle.circuit.specs.Circuit.{Place, at-flop, at-gate, Wire}

@@ -1,7 +1,7 @@
 -- A circuit block as plain numbers and lists. Elements and domains are numbered from 0 by their place in the list.
 use Prim.Native.Nat.{ℕ}
 use lib.IntN.{ℤ}
-use mathlib.Core.List.{List, [], _∷_}
+use mathlib.Core.List.{List, [], _∷_, _++_}
 
 pub record FlipFlop : Type 0 where
   pub setup : ℕ
@@ -46,3 +46,13 @@ with-gates c gates = record { parts = c .parts; skews = c .skews; flops = c .flo
 
 abbrev pub with-wires : Circuit → List Wire → Circuit
 with-wires c wires = record { parts = c .parts; skews = c .skews; flops = c .flops; gates = c .gates; wires = wires }
+
+-- a circuit with one element more, which comes last
+abbrev pub more-flops : Circuit → FlipFlop → Circuit
+more-flops c f = with-flops c (c .flops ++ (f ∷ []))
+
+abbrev pub more-gates : Circuit → Gate → Circuit
+more-gates c g = with-gates c (c .gates ++ (g ∷ []))
+
+abbrev pub more-wires : Circuit → Wire → Circuit
+more-wires c w = with-wires c (c .wires ++ (w ∷ []))

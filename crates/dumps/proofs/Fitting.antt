@@ -15,7 +15,8 @@ use Rattle.circuit.specs.Limits.{most-flops, most-gates, most-wires, delay-end}
 use Rattle.circuit.specs.Sound.{SoundDomains, Fed, Drained, Sound, every, flop-fits, gate-fits, wire-fits, runs, there, forward}
 use Rattle.dumps.specs.Frame.{Frame, domains-frame, flop-frame, gate-frame, wire-frame, end-frame, Writable}
 use Rattle.dumps.specs.Reading.{State, begin}
-use Rattle.dumps.proofs.Tests.{sound-domains-right, joined-up-right, every-push}
+use Rattle.circuit.proofs.Every.{every-push}
+use Rattle.dumps.proofs.Tests.{sound-domains-right, joined-up-right}
 use Rattle.dumps.proofs.Terminals.{known-present}
 use Rattle.dumps.proofs.Grounds.{checks}
 use Rattle.dumps.proofs.Steps.{next}

@@ -1,8 +1,8 @@
 -- The tests of the reading decide what they are named for.
 use Prim.Native.Nat.{ℕ, zero, suc, _-_, _<_}
 use mathlib.Core.Path.{_≡_, refl}
-use mathlib.Core.Bool.{Bool, true, _&&_}
-use mathlib.Core.List.{List, [], _∷_, _++_}
+use mathlib.Core.Bool.{true, _&&_}
+use mathlib.Core.List.{List, [], _∷_}
 use native.Mathlib.Nat.{suc-add}
 use native.Mathlib.Omega.{arith}
 use lib.Dec.{ltb}
@@ -12,7 +12,7 @@ use Rattle.std.proofs.shelf.Tests.{false≢true, and-parts, and-from, ltb-true,
 use Rattle.std.proofs.shelf.Ways.{decides-below-and}
 use Rattle.circuit.specs.Circuit.{Wire}
 use Rattle.circuit.specs.Limits.{most-domains, most-parts}
-use Rattle.circuit.specs.Sound.{Rising, SoundDomains, every, any, enters, leaves, Fed, Drained}
+use Rattle.circuit.specs.Sound.{Rising, SoundDomains, any, enters, leaves, Fed, Drained}
 use Rattle.dumps.specs.Reading.{rising, last-of, sound-domains, joined-up}
 
 -- ---- domain sets
@@ -88,12 +88,3 @@ joined-up-right gates wires e =
 -- gates with a wire in and a wire out pass the test
 pub joined-up-all : (gates : ℕ) (wires : List Wire) → Fed gates wires → Drained gates wires → joined-up gates wires ≡ true
 joined-up-all gates wires fed drained = joined-up-decides gates wires .1 (λ g h. (fed g h, drained g h))
-
--- ---- lists
-
--- a test that every element passes, and one more element passes
-pub every-push : {X : Type 0} (test : X → Bool) (xs : List X) (x : X) → every test xs ≡ true → test x ≡ true → every test (xs ++ (x ∷ [])) ≡ true
-every-push test [] x e h = and-from (test x) true h refl
-every-push test (y ∷ ys) x e h =
-    let (first, rest) = and-parts (test y) (every test ys) e in
-    and-from (test y) (every test (ys ++ (x ∷ []))) first (every-push test ys x rest h)

@@ -1,12 +1,10 @@
 -- A reading of texts, line by line, that comes to the verdict. What a verdict means is said in Verdict.antt without it;
 -- the proofs show that the reading gives that verdict, and the code is compared with the reading.
-use Prim.Native.Nat.{ℕ, zero, suc, _+_, _-_, _*_, _<_, _≤_}
-use mathlib.Core.Path.{_≡_}
+use Prim.Native.Nat.{ℕ, zero, suc, _+_, _-_, _*_}
 use mathlib.Core.Bool.{Bool, true, false, _&&_, cond}
-use mathlib.Core.List.{List, [], _∷_, _++_}
-use lib.ListN.{length, getD}
+use mathlib.Core.List.{List, [], _∷_}
+use lib.ListN.{length}
 use lib.Dec.{eqb, ltb, leb}
-use lib.IntN.{ℤ}
 use mir.Val.{toZ}
 use mir.Syntax.{w16}
 use Rattle.std.specs.Options.{mapped}
@@ -14,8 +12,8 @@ use Rattle.std.specs.declared.option.Option.{Option}
 use Rattle.std.specs.declared.option.Option.the-variants.{Some, None}
 use Rattle.std.specs.declared.result.Result.{Result}
 use Rattle.std.specs.declared.result.Result.the-variants.{Ok, Err}
-use Rattle.circuit.specs.Circuit.{FlipFlop, Gate, Wire, Circuit, empty}
-use Rattle.circuit.specs.Terminal.{Terminal, place, known}
+use Rattle.circuit.specs.Circuit.{Wire, Circuit, empty, with-domains, more-flops, more-gates, more-wires}
+use Rattle.circuit.specs.Terminal.{place, known}
 use Rattle.circuit.specs.Limits.{most-flops, most-gates, most-wires, most-domains, most-parts}
 use Rattle.circuit.specs.Sound.{forward, any, enters, leaves}
 use Rattle.dumps.specs.declared.ground.Ground.{Ground}
@@ -160,23 +158,11 @@ breach c (wire-frame start end delay) =
     (refuse-unless (forward (place start) (place end)) Backward None))
 breach c end-frame = refuse-unless (joined-up (length (c .gates)) (c .wires)) Open None
 
-abbrev pub with-domains : Circuit → ℕ → List ℕ → Circuit
-with-domains c parts skews = record { parts = parts; skews = skews; flops = c .flops; gates = c .gates; wires = c .wires }
-
-abbrev pub with-flop : Circuit → FlipFlop → Circuit
-with-flop c f = record { parts = c .parts; skews = c .skews; flops = c .flops ++ (f ∷ []); gates = c .gates; wires = c .wires }
-
-abbrev pub with-gate : Circuit → Gate → Circuit
-with-gate c g = record { parts = c .parts; skews = c .skews; flops = c .flops; gates = c .gates ++ (g ∷ []); wires = c .wires }
-
-abbrev pub with-wire : Circuit → Wire → Circuit
-with-wire c w = record { parts = c .parts; skews = c .skews; flops = c .flops; gates = c .gates; wires = c .wires ++ (w ∷ []) }
-
 abbrev pub grown : Circuit → Frame → Circuit
 grown c (domains-frame parts skews) = with-domains c parts skews
-grown c (flop-frame f) = with-flop c f
-grown c (gate-frame g) = with-gate c g
-grown c (wire-frame start end delay) = with-wire c (record { start = place start; end = place end; delay = delay })
+grown c (flop-frame f) = more-flops c f
+grown c (gate-frame g) = more-gates c g
+grown c (wire-frame start end delay) = more-wires c (record { start = place start; end = place end; delay = delay })
 grown c end-frame = c
 
 -- ---- lines into a verdict

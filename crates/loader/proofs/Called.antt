@@ -2,7 +2,6 @@
 use mathlib.Core.Path.{_≡_, subst}
 use mathlib.Core.List.{List}
 use Prim.Native.Nat.{ℕ}
-use Rattle.std.specs.declared.result.Result.{Result}
 use Rattle.std.specs.declared.result.Result.the-variants.{Err}
 use Rattle.circuit.specs.Circuit.{Circuit, empty}
 use Rattle.dumps.specs.Verdict.{Judged}

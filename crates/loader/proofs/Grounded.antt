@@ -1,6 +1,6 @@
 -- The faults of the block layer are the grounds of the reading.
 use mathlib.Core.Path.{_≡_, refl, sym, _∙_, ap, subst}
-use mathlib.Core.Bool.{Bool, true, false, cond, _&&_}
+use mathlib.Core.Bool.{Bool, true, false, _&&_}
 use mathlib.Core.Logic.{_⊎_, inl, inr}
 use mathlib.Core.List.{List}
 use Prim.Native.Nat.{ℕ}
@@ -9,8 +9,8 @@ use lib.Dec.{ltb}
 use Rattle.std.specs.Options.{mapped}
 use Rattle.std.specs.declared.option.Option.{Option}
 use Rattle.std.specs.declared.option.Option.the-variants.{Some, None}
-use Rattle.std.proofs.shelf.Tests.{cond-true, cond-false}
-use Rattle.circuit.specs.Circuit.{Circuit, Wire}
+use Rattle.std.proofs.shelf.Tests.{cond-true}
+use Rattle.circuit.specs.Circuit.{Circuit}
 use Rattle.circuit.specs.Limits.{most-wires}
 use Rattle.circuit.specs.Sound.{SoundDomains, Covered, forward}
 use Rattle.circuit.specs.Terminal.{Terminal, place, known}

@@ -1,12 +1,11 @@
 -- The laws of loading, from those of verdicts.
-use mathlib.Core.Path.{_≡_, refl, sym, _∙_, ap}
+use mathlib.Core.Path.{_≡_, refl, sym, _∙_}
 use mathlib.Core.List.{List}
 use mathlib.Core.Logic.{_⊎_, inl, inr}
-use Prim.Native.Nat.{ℕ, _<_}
+use Prim.Native.Nat.{ℕ}
 use native.Mathlib.Omega.{arith}
-use Rattle.circuit.specs.Circuit.{Circuit, empty}
-use Rattle.circuit.specs.Sound.{Sound}
-use Rattle.dumps.specs.Verdict.{Verdict, accepted, refused, Judged}
+use Rattle.circuit.specs.Circuit.{Circuit}
+use Rattle.dumps.specs.Verdict.{accepted, refused, Judged}
 use Rattle.dumps.proofs.Answer.{unique}
 use Rattle.dumps.proofs.Dump.{every-sound-circuit-has-a-dump}
 use Rattle.loader.specs.Load.{LoadAnswer, loaded, refused-at, no-memory, LoadCall}

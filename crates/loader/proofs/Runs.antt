@@ -3,7 +3,7 @@ use mathlib.Core.Path.{_≡_, refl, sym, _∙_, ap, subst}
 use mathlib.Core.Logic.{⊎-elim}
 use mathlib.Core.Bool.{Bool, true, false, cond}
 use mathlib.Core.List.{List, [], _∷_}
-use Prim.Native.Nat.{ℕ, _+_, _<_, _≤_}
+use Prim.Native.Nat.{ℕ, _+_, _≤_}
 use lib.Dec.{eqb}
 use lib.ListN.{length}
 use native.Mathlib.Omega.{arith}
@@ -18,7 +18,7 @@ use Rattle.dumps.specs.declared.ground.Ground.{Ground}
 use Rattle.dumps.specs.declared.ground.Ground.the-variants.{Order, Open}
 use Rattle.dumps.specs.Ground.{number-of}
 use Rattle.dumps.specs.Frame.{Frame, domains-frame, flop-frame, gate-frame, wire-frame, end-frame, kind}
-use Rattle.dumps.specs.Verdict.{Verdict, accepted, refused}
+use Rattle.dumps.specs.Verdict.{accepted, refused}
 use Rattle.dumps.specs.Reading.{State, held, parsed, may-stand, breach, grown, or-refuse, admitted, framed, spelt, step, onward, run, joined-up, refuse-unless}
 use Rattle.dumps.proofs.Tests.{joined-up-right}
 use Rattle.loader.proofs.Feeds.{held-short}

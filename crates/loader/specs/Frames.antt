@@ -6,7 +6,7 @@ use Rattle.std.specs.Of.Vec.{vec-items}
 use Rattle.std.specs.declared.option.Option.{Option}
 use Rattle.std.specs.declared.option.Option.the-variants.{Some, None}
 use Rattle.dumps.specs.Frame.{Frame as Meant, domains-frame, flop-frame, gate-frame, wire-frame, end-frame}
-use Rattle.dumps.specs.Reading.{parsed, held, bind}
+use Rattle.dumps.specs.Reading.{parsed, held}
 use Rattle.netlist.specs.Figures.{terminal-of}
 use Rattle.loader.specs.declared.digits.DigitFault.{DigitFault}
 use Rattle.loader.specs.declared.digits.DigitFault.the-variants as digit

@@ -3,7 +3,7 @@ use mathlib.Core.Path.{_≡_}
 use Rattle.std.specs.declared.option.Option.{Option}
 use Rattle.std.specs.declared.option.Option.the-variants.{Some}
 use Rattle.std.specs.declared.result.Result.{Result}
-use Rattle.std.specs.declared.result.Result.the-variants.{Ok, Err}
+use Rattle.std.specs.declared.result.Result.the-variants.{Err}
 use Rattle.dumps.specs.declared.ground.Ground.{Ground}
 use Rattle.dumps.specs.declared.ground.Ground.the-variants as ground
 use Rattle.dumps.specs.Reading.{State}

@@ -2,15 +2,19 @@
 ghost use mathlib.Core.Path.{_≡_};
 ghost use Rattle.std.specs.Results.{Cases};
 ghost use Rattle.std.specs.Of.Vec.{vec-items};
-ghost use Rattle.std.specs.declared.option.Option.the-variants.{Some, None};
+ghost use Rattle.std.specs.declared.option.Option.the-variants.{Some};
 ghost use Rattle.dumps.specs.Reading.{value, decoded, held};
 ghost use Rattle.loader.specs.Digits.{Unread};
 ghost use Rattle.loader.specs.declared.digits.DigitFault.the-variants.{Memory};
-use std::alloc::AllocError;
 use std::alloc::Global;
 use std::alloc::Refused;
 
-const LINE_FEED: u8 = b'\n';
+pub(crate) const LINE_FEED: u8 = b'\n';
+
+// Digits are hexadecimal, and the letter a stands for ten.
+const BASE: u8 = 16;
+
+const TEN: u8 = 10;
 
 // Why a line holds no bytes.
 #[derive(Clone, Copy, PartialEq, Eq, Debug)]
@@ -34,7 +38,7 @@ fn value(digit: u8) -> Result<u8, DigitFault>
 {
     match digit {
         b'0'..=b'9' => Ok(digit - b'0'),
-        b'a'..=b'f' => Ok(digit - b'a' + 10),
+        b'a'..=b'f' => Ok(digit - b'a' + TEN),
         _ => Err(DigitFault::Spelling),
     }
 }
@@ -46,7 +50,7 @@ fn spelled(digits: &[u8], heap: Global) -> Result<Vec<u8>, DigitFault>
     let mut bytes = Vec::new(heap);
     let mut rest = digits;
     while let [high, low, more @ ..] = rest {
-        bytes.push(value(*high)? * 16 + value(*low)?)?;
+        bytes.push(value(*high)? * BASE + value(*low)?)?;
         rest = more;
     }
     if rest.is_empty() {

@@ -2,7 +2,7 @@
 ghost use mathlib.Core.Path.{_≡_};
 ghost use Rattle.std.specs.Results.{Cases};
 ghost use Rattle.std.specs.Of.Vec.{vec-items};
-ghost use Rattle.std.specs.declared.option.Option.the-variants.{Some, None};
+ghost use Rattle.std.specs.declared.option.Option.the-variants.{Some};
 ghost use Rattle.dumps.specs.Frame.{kind};
 ghost use Rattle.dumps.specs.Reading.{numbers, parsed};
 ghost use Rattle.loader.specs.Frames.{frame-of, kind-number, frame-fault, Says-frame, Unframed, Unparsed};
@@ -10,7 +10,6 @@ ghost use Rattle.loader.specs.declared.frame.FrameFault.the-variants.{Memory};
 use crate::digits::DigitFault;
 use crate::digits::decode;
 use netlist::Terminal;
-use std::alloc::AllocError;
 use std::alloc::Global;
 use std::alloc::Refused;
 
@@ -23,6 +22,9 @@ const GATE: u8 = 0x03;
 const WIRE: u8 = 0x04;
 
 const END: u8 = 0x05;
+
+// The bytes of a field.
+const FIELD: usize = 2;
 
 // A frame with its fields as they were written.
 #[derive(Drop)]
@@ -119,7 +121,7 @@ fn parse(bytes: &[u8], heap: Global) -> Result<Frame, FrameFault>
 {
     match bytes {
         [DOMAINS, q1, q0, count, skews @ ..] => {
-            if skews.len() != 2 * *count as usize {
+            if skews.len() != FIELD * *count as usize {
                 return Err(FrameFault::Shape);
             }
             Ok(Frame::Domains {

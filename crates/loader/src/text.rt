@@ -6,6 +6,7 @@ ghost use Rattle.dumps.specs.Reading.{judge};
 ghost use Rattle.netlist.specs.Circuits.{circuit};
 ghost use Rattle.loader.specs.Load.{with-line, error-number, error-line, load-answer, LoadCall, TextRead, FirstLine};
 use crate::assembly::Assembly;
+use crate::digits::LINE_FEED;
 use crate::faults::LineFault;
 use dumps::Ground;
 use dumps::GroundDebug;
@@ -13,8 +14,6 @@ use dumps::GroundEq;
 use dumps::GroundPartialEq;
 use netlist::Block;
 use std::alloc::Global;
-
-const LINE_FEED: u8 = b'\n';
 
 // Why a text was not loaded: a ground with a line, counted from 1, or want of memory.
 #[derive(Clone, Copy, PartialEq, Eq, Debug)]

@@ -1,15 +1,14 @@
 -- Which fault a growing block answers, from what was tested.
-use mathlib.Core.Path.{_≡_, refl, sym, _∙_, ap}
+use mathlib.Core.Path.{_≡_, refl, _∙_}
 use mathlib.Core.Bool.{Bool, true, false, _&&_, cond}
-use mathlib.Core.List.{List}
-use Prim.Native.Nat.{ℕ, _<_, _≤_}
+use Prim.Native.Nat.{ℕ}
 use lib.ListN.{length}
-use lib.Dec.{ltb, leb, eqb}
+use lib.Dec.{ltb, eqb}
 use native.Mathlib.Omega.{arith}
 use Rattle.std.specs.declared.option.Option.{Option}
 use Rattle.std.specs.declared.option.Option.the-variants.{Some, None}
-use Rattle.std.proofs.shelf.Tests.{lt-ltb, cond-true, cond-false, and-from, and-parts, cases-bool}
-use Rattle.circuit.specs.Circuit.{Circuit, Place, at-flop, at-gate}
+use Rattle.std.proofs.shelf.Tests.{cond-true, cond-false, and-from, and-parts}
+use Rattle.circuit.specs.Circuit.{Circuit, at-flop, at-gate}
 use Rattle.circuit.specs.Sound.{there, forward, runs}
 use Rattle.circuit.specs.Terminal.{Terminal, flop-class, gate-class, place, known}
 use Rattle.netlist.specs.declared.faults.BlockFault.{BlockFault}

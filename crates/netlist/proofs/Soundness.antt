@@ -1,19 +1,15 @@
 -- What the types of a draft and a block keep is what makes a circuit sound.
-use mathlib.Core.Path.{_≡_, refl, sym, _∙_, ap}
-use mathlib.Core.Bool.{Bool, true, _&&_}
-use mathlib.Core.List.{List, [], _∷_, map}
-use Prim.Native.Nat.{ℕ, _-_}
-use lib.ListN.{length, getD, take}
+use mathlib.Core.Path.{_≡_, _∙_}
+use mathlib.Core.Bool.{Bool, true}
+use mathlib.Core.List.{List, map}
+use lib.ListN.{length}
 use lib.Dec.{ltb, leb}
 use native.Mathlib.Omega.{arith}
 use Rattle.std.specs.Of.Vec.{vec-items}
 use Rattle.std.proofs.shelf.Tests.{and-from, lt-ltb, le-leb}
 use Rattle.circuit.specs.Limits.{delay-end}
-use Rattle.circuit.specs.Sound.{SoundDomains, Sound, every, flop-fits, gate-fits, hold-fits, runs, wire-fits}
+use Rattle.circuit.specs.Sound.{SoundDomains, Sound, every, flop-fits, gate-fits, hold-fits, runs}
 use Rattle.circuit.proofs.Every.{every-map, every-all, every-both}
-use Rattle.netlist.specs.declared.elements.FlipFlop.{FlipFlop}
-use Rattle.netlist.specs.declared.elements.Gate.{Gate}
-use Rattle.netlist.specs.declared.elements.Wire.{Wire}
 use Rattle.netlist.specs.declared.domains.DomainSet.{DomainSet}
 use Rattle.netlist.specs.declared.block.Block.{Block}
 use Rattle.netlist.specs.Figures.{flop-of, gate-of, wire-of}

@@ -1,6 +1,5 @@
 -- What each change of one element answers, and the circuit afterwards.
 use Prim.Native.Nat.{ℕ, zero, suc, _<_, _≤_}
-use mathlib.Core.Path.{_≡_}
 use mathlib.Core.List.{List, [], _∷_}
 use lib.ListN.{length, set}
 use lib.IntN.{ℤ}
@@ -8,7 +7,7 @@ use Rattle.std.specs.declared.option.Option.{Option}
 use Rattle.std.specs.declared.option.Option.the-variants.{Some, None}
 use Rattle.std.specs.declared.result.Result.{Result}
 use Rattle.std.specs.declared.result.Result.the-variants.{Ok, Err}
-use Rattle.circuit.specs.Circuit.{FlipFlop, Gate, Wire, Circuit, with-flops, with-gates, with-wires}
+use Rattle.circuit.specs.Circuit.{Wire, Circuit, with-flops, with-gates, with-wires}
 use Rattle.netlist.specs.declared.faults.ChangeFault.{ChangeFault}
 use Rattle.netlist.specs.declared.faults.ChangeFault.the-variants.{Missing, Delays}
 

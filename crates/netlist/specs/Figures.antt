@@ -1,6 +1,4 @@
 -- What the elements of a block mean: their figures, as a circuit has them.
-use Prim.Native.Nat.{ℕ}
-use mathlib.Core.List.{List}
 use Rattle.circuit.specs.Circuit.{FlipFlop as FlopFigures, Gate as GateFigures, Wire as WireFigures, Place as Spot, at-flop, at-gate}
 use Rattle.circuit.specs.Terminal.{Terminal as Naming}
 use Rattle.netlist.specs.declared.elements.FlipFlop.{FlipFlop}

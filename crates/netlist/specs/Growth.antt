@@ -2,7 +2,7 @@
 use Prim.Native.Nat.{ℕ}
 use mathlib.Core.Path.{_≡_}
 use mathlib.Core.Bool.{Bool, true, false, _&&_, cond}
-use mathlib.Core.List.{List, [], _∷_, _++_}
+use mathlib.Core.List.{List}
 use mathlib.Core.Logic.{_⊎_}
 use lib.ListN.{length}
 use lib.Dec.{ltb, leb}
@@ -11,7 +11,7 @@ use Rattle.std.specs.declared.option.Option.{Option}
 use Rattle.std.specs.declared.option.Option.the-variants.{Some, None}
 use Rattle.std.specs.declared.result.Result.{Result}
 use Rattle.std.specs.declared.result.Result.the-variants.{Ok, Err}
-use Rattle.circuit.specs.Circuit.{FlipFlop, Gate, Wire, Circuit, with-domains, with-flops, with-gates, with-wires}
+use Rattle.circuit.specs.Circuit.{Gate, Wire, Circuit, with-domains, more-flops, more-gates, more-wires}
 use Rattle.circuit.specs.Limits.{most-flops, most-gates, most-wires}
 use Rattle.circuit.specs.Sound.{SoundDomains, Covered, forward}
 use Rattle.circuit.specs.Terminal.{Terminal, place, known}
@@ -41,15 +41,6 @@ wire-breach c start end = unless (ltb (length (c .wires)) most-wires) Surplus (l
 
 abbrev pub link : Terminal → Terminal → ℕ → Wire
 link start end delay = record { start = place start; end = place end; delay = delay }
-
-abbrev pub more-flops : Circuit → FlipFlop → Circuit
-more-flops c f = with-flops c (c .flops ++ (f ∷ []))
-
-abbrev pub more-gates : Circuit → Gate → Circuit
-more-gates c g = with-gates c (c .gates ++ (g ∷ []))
-
-abbrev pub more-wires : Circuit → Wire → Circuit
-more-wires c w = with-wires c (c .wires ++ (w ∷ []))
 
 -- an answer with the circuit before, what it would grow to, and the circuit after: grown where nothing is refused, and
 -- as before at a refusal or for want of memory

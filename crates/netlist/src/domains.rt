@@ -1,7 +1,6 @@
 // The prescribed clock domains of a block. No set outside its limits can be made.
 ghost use mathlib.Core.Path.{_≡_};
-ghost use mathlib.Core.List.{[], _∷_};
-ghost use Prim.Native.Nat.{ℕ, _+_, _-_, _<_, _≤_};
+ghost use Prim.Native.Nat.{_-_, _<_, _≤_};
 ghost use lib.ListN.{length, getD, take};
 ghost use Rattle.circuit.specs.Limits.{most-parts, most-domains};
 ghost use Rattle.circuit.specs.Sound.{Rising};

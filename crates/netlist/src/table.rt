@@ -2,7 +2,6 @@
 ghost use mathlib.Core.Path.{_≡_};
 ghost use mathlib.Core.Bool.{cond};
 ghost use mathlib.Core.List.{[], _∷_, _++_};
-ghost use Prim.Native.Nat.{ℕ};
 ghost use lib.ListN.{length, getD};
 ghost use lib.Dec.{ltb};
 ghost use ghost.Atoms.{sem};
@@ -13,7 +12,7 @@ ghost use Rattle.std.specs.Finite.{nth};
 ghost use Rattle.std.specs.Options.{isSome};
 ghost use Rattle.std.specs.Results.{isOk};
 ghost use Rattle.std.specs.Slices.{found};
-ghost use Rattle.std.specs.Of.Vec.{vec-items, vec-len};
+ghost use Rattle.std.specs.Of.Vec.{vec-items};
 ghost use Rattle.netlist.specs.contracts.table.Table.{the-row};
 use std::alloc::AllocError;
 use std::alloc::Global;

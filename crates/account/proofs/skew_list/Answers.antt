@@ -1,11 +1,8 @@
-use mathlib.Core.Path.{_≡_, sym, _∙_, ap}
+use mathlib.Core.Path.{sym, _∙_, ap}
 use mathlib.Core.List.{_++_}
 use Prim.Native.Nat.{_<_}
-use lib.Chars.{codes}
 use lib.ListN.{length, take}
 use native.Mathlib.Omega.{arith}
-use Rattle.std.specs.Written.{decimal}
-use Rattle.std.specs.Of.String.{string-bytes}
 use Rattle.netlist.specs.Circuits.{circuit}
 use Rattle.account.specs.Account.{skew-words}
 use Rattle.account.proofs.Words.{next-within, words-more}

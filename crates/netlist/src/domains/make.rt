@@ -6,6 +6,7 @@ ghost use lib.ListN.{length, getD, take};
 ghost use Rattle.std.specs.Finite.{nth};
 ghost use Rattle.std.specs.Options.{Cases};
 ghost use Rattle.std.specs.Orderings.{Decides};
+ghost use Rattle.circuit.specs.Limits.{most-domains};
 ghost use Rattle.circuit.specs.Sound.{SoundDomains};
 ghost use Rattle.netlist.specs.Domains.{skews-of};
 use crate::domains::DomainSet;
@@ -41,8 +42,8 @@ fn sound(parts: u16, skews: &[u16]) -> bool
 
 // The skews in use, with zeros after them.
 fn stored(skews: &[u16]) -> [u16; MOST_DOMAINS]
-    requires { ⌜ length (now skews) ≤ 8 ⌝ }
-    ensures { λ r. ⌜ (length r ≡ 8) × (take (length (now (skews .entry))) r ≡ now (skews .entry)) ⌝ }
+    requires { ⌜ length (now skews) ≤ most-domains ⌝ }
+    ensures { λ r. ⌜ (length r ≡ most-domains) × (take (length (now (skews .entry))) r ≡ now (skews .entry)) ⌝ }
 {
     let mut all = [0; MOST_DOMAINS];
     for (k, skew) in skews.iter().enumerate() {

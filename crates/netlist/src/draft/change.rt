@@ -1,5 +1,4 @@
 // Changes of one element of a draft, which its table lends.
-ghost use mathlib.Core.Path.{_≡_};
 ghost use Rattle.netlist.specs.Changes.{change-code, ChangeGateCall, ChangeWireCall, ChangeFlopCall};
 ghost use Rattle.netlist.specs.Drafted.{drafted};
 use crate::draft::Draft;

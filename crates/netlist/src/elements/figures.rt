@@ -1,8 +1,6 @@
 // How elements are made, read and changed.
 ghost use mathlib.Core.Path.{_≡_};
-ghost use mathlib.Core.Bool.{cond};
 ghost use Prim.Native.Nat.{_<_, _≤_};
-ghost use lib.Dec.{leb};
 ghost use Rattle.std.specs.Options.{Cases};
 ghost use Rattle.netlist.specs.Figures.{flop-of, gate-of, wire-of, place-of};
 use crate::elements::FlipFlop;

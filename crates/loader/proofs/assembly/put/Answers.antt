@@ -1,4 +1,4 @@
-use mathlib.Core.Path.{_≡_, sym, _∙_, ap, subst}
+use mathlib.Core.Path.{sym, _∙_, ap, subst}
 use Rattle.std.proofs.shelf.Results.{err-from-errBy}
 use Rattle.dumps.specs.declared.ground.Ground.the-variants as ground
 use Rattle.dumps.specs.Frame.{Frame, domains-frame, end-frame}

@@ -1,14 +1,13 @@
 use mathlib.Core.Path.{_≡_, sym, _∙_, ap, subst}
 use mathlib.Core.List.{List}
-use Prim.Native.Nat.{ℕ, _≤_, _-_}
+use Prim.Native.Nat.{ℕ, _-_}
 use lib.ListN.{length, take}
 use native.Mathlib.Omega.{arith}
-use borrow.Author.Needs.{needs}
 use Rattle.std.specs.Of.Vec.{vec-items}
 use Rattle.std.specs.Results.{Cases}
 use Rattle.std.specs.declared.option.Option.{Option}
 use Rattle.std.specs.declared.option.Option.the-variants.{Some}
-use Rattle.dumps.specs.Reading.{held, decoded}
+use Rattle.dumps.specs.Reading.{decoded}
 use Rattle.loader.specs.Digits.{Unread}
 use Rattle.loader.proofs.Feeds.{held-fed, held-unfed, held-short}
 use Rattle.loader.proofs.digits.decode.Needs as need

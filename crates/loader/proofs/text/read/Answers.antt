@@ -1,15 +1,13 @@
-use mathlib.Core.Path.{_≡_, sym, _∙_, ap, subst}
+use mathlib.Core.Path.{sym, _∙_, ap, subst}
 use mathlib.Core.Logic.{⊎-elim}
-use Prim.Native.Nat.{_+_, _-_, _≤_}
+use Prim.Native.Nat.{_+_, _-_}
 use lib.ListN.{length, take, drop}
 use native.Mathlib.Omega.{arith}
 use native.Mathlib.Nat.{min-le-left}
-use borrow.Author.Needs.{needs}
 use Rattle.std.proofs.shelf.Lists.{length-take, drop-all}
 use Rattle.dumps.specs.Spelling.{lines}
 use Rattle.dumps.specs.Verdict.{accepted}
 use Rattle.dumps.specs.Reading.{run, judge}
-use Rattle.netlist.specs.Circuits.{circuit}
 use Rattle.loader.specs.declared.text.LoadError.{LoadError}
 use Rattle.loader.specs.Load.{with-line, Refusing}
 use Rattle.loader.specs.Assemblies.{state-of}

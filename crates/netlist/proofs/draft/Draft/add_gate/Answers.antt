@@ -1,11 +1,9 @@
-use mathlib.Core.Path.{_≡_, refl, sym, _∙_, ap}
-use mathlib.Core.Bool.{true, _&&_}
+use mathlib.Core.Path.{refl, ap}
 use mathlib.Core.List.{map}
-use Prim.Native.Nat.{_<_, _≤_}
+use Prim.Native.Nat.{_<_}
 use lib.ListN.{length}
 use lib.Dec.{ltb, leb}
 use native.Mathlib.Omega.{arith}
-use borrow.Author.Needs.{needs}
 use Rattle.std.specs.Of.Vec.{vec-items}
 use Rattle.std.specs.Results.{isOk}
 use Rattle.std.specs.declared.option.Option.the-variants.{None}
@@ -17,7 +15,7 @@ use Rattle.netlist.specs.Figures.{gate-of}
 use Rattle.netlist.proofs.Breaches.{passed}
 use Rattle.netlist.specs.declared.faults.BlockFault.the-variants.{Surplus, Delays}
 use Rattle.netlist.specs.Drafted.{drafted}
-use Rattle.netlist.proofs.Pushed.{pushed-few, pushed-longer, pushed-every, pushed-map}
+use Rattle.netlist.proofs.Pushed.{pushed-few, pushed-longer, pushed-map}
 use Rattle.netlist.proofs.draft.Draft.add_gate.Needs as need
 
 pub ghost-self : need.ghost-self

@@ -1,7 +1,6 @@
-use mathlib.Core.Path.{_≡_, refl, sym, _∙_, ap, subst}
-use mathlib.Core.Bool.{true}
+use mathlib.Core.Path.{refl, sym, _∙_, ap}
 use mathlib.Core.List.{map}
-use Prim.Native.Nat.{ℕ, _<_, _≤_}
+use Prim.Native.Nat.{_<_, _≤_}
 use lib.ListN.{length, set}
 use native.Mathlib.Omega.{arith}
 use Rattle.std.specs.Of.Vec.{vec-items}
@@ -9,9 +8,8 @@ use Rattle.std.proofs.shelf.Lists.{length-map, map-set, getD-map}
 use Rattle.std.proofs.shelf.Tests.{ltb-true, ltb-false}
 use Rattle.circuit.specs.Limits.{most-wires}
 use Rattle.circuit.specs.Circuit.{with-wires}
-use Rattle.circuit.specs.Sound.{every, runs}
+use Rattle.circuit.specs.Sound.{runs}
 use Rattle.netlist.specs.Figures.{wire-of}
-use Rattle.netlist.specs.Changes.{delayed}
 use Rattle.netlist.proofs.Lent.{lent-few, lent-every, lent-passes, delayed-set}
 use Rattle.netlist.proofs.Answered.{answers-missing, answers-made}
 use Rattle.netlist.specs.Drafted.{drafted}
