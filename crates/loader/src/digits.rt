@@ -16,6 +16,9 @@ const BASE: u8 = 16;
 
 const TEN: u8 = 10;
 
+// A shorter line has no digit before its line feed.
+const SHORTEST_LINE: usize = 2;
+
 // Why a line holds no bytes.
 #[derive(Clone, Copy, PartialEq, Eq, Debug)]
 pub enum DigitFault {
@@ -65,7 +68,7 @@ pub fn decode(line: &[u8], heap: Global) -> Result<Vec<u8>, DigitFault>
     ensures { λ r. ⌜ Cases r (λ v. held (now (line .entry)) ≡ Some (vec-items v)) (λ e. Unread e (held (now (line .entry)))) ⌝ }
 {
     let count = line.len();
-    if count < 2 || line[count - 1] != LINE_FEED {
+    if count < SHORTEST_LINE || line[count - 1] != LINE_FEED {
         return Err(DigitFault::Spelling);
     }
     spelled(&line[0..count - 1], heap)

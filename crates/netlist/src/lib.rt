@@ -4,6 +4,7 @@ mod domains;
 mod draft;
 mod elements;
 mod faults;
+mod laws;
 pub mod limits;
 mod table;
 
@@ -23,3 +24,4 @@ pub use faults::ChangeFault;
 pub use faults::ChangeFaultDebug;
 pub use faults::ChangeFaultEq;
 pub use faults::ChangeFaultPartialEq;
+pub use laws::every_block_is_sound;

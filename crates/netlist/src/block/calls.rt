@@ -4,7 +4,6 @@ ghost use lib.ListN.{length};
 ghost use Rattle.std.specs.Finite.{nth};
 ghost use Rattle.std.specs.Options.{mapped};
 ghost use Rattle.circuit.specs.Circuit.{empty};
-ghost use Rattle.circuit.specs.Sound.{Sound};
 ghost use Rattle.netlist.specs.Figures.{flop-of, gate-of, wire-of};
 ghost use Rattle.netlist.specs.Changes.{change-code, ChangeGateCall, ChangeWireCall, ChangeFlopCall};
 ghost use Rattle.netlist.specs.Circuits.{circuit, FinishCall};
@@ -124,9 +123,4 @@ impl Block {
     {
         self.draft.change_flip_flop(number, setup, hold)
     }
-
-    // Every block is sound: its type keeps each limit.
-    pub fn is_sound(&self)
-        ensures { λ _. ⌜ Sound (circuit (now (self .entry))) ⌝ }
-    {}
 }

@@ -11,14 +11,14 @@ use Rattle.dumps.specs.Reading.{decoded}
 use Rattle.loader.specs.Digits.{Unread}
 use Rattle.loader.proofs.Feeds.{held-fed, held-unfed, held-short}
 use Rattle.loader.proofs.digits.decode.Needs as need
-use Rattle.loader.proofs.digits.decode.Needs.{then-count-lt2·by·then-count-lt2, then-count-lt2·by·else-count-lt2·then-line-count-ne-LINE-FEED}
+use Rattle.loader.proofs.digits.decode.Needs.{then-count-lt-SHORTEST-LINE·by·then-count-lt-SHORTEST-LINE, then-count-lt-SHORTEST-LINE·by·else-count-lt-SHORTEST-LINE·then-line-count-ne-LINE-FEED}
 
-pub returns-then-count-lt2 : need.returns-then-count-lt2
-returns-then-count-lt2 c =
+pub returns-then-count-lt-SHORTEST-LINE : need.returns-then-count-lt-SHORTEST-LINE
+returns-then-count-lt-SHORTEST-LINE c =
     let line = c .args .line .now in
-    elim (c .then-count-lt2 .came) [
-      | then-count-lt2·by·then-count-lt2 w ↦ held-short line (w .if-count-lt2 .taken)
-      | then-count-lt2·by·else-count-lt2·then-line-count-ne-LINE-FEED w ↦ held-unfed line (w .if-count-lt2 .left) (w .if-line-count-ne-LINE-FEED .taken)
+    elim (c .then-count-lt-SHORTEST-LINE .came) [
+      | then-count-lt-SHORTEST-LINE·by·then-count-lt-SHORTEST-LINE w ↦ held-short line (w .if-count-lt-SHORTEST-LINE .taken)
+      | then-count-lt-SHORTEST-LINE·by·else-count-lt-SHORTEST-LINE·then-line-count-ne-LINE-FEED w ↦ held-unfed line (w .if-count-lt-SHORTEST-LINE .left) (w .if-line-count-ne-LINE-FEED .taken)
     ]
 
 pub returns : need.returns
@@ -26,4 +26,4 @@ returns c =
     let line = c .args .line .now in
     let P : Option (List ℕ) → Type 0 = λ o. Cases (c .spelled .result) (λ v. o ≡ Some (vec-items v)) (λ e. Unread e o) in
     let cut : length line - 1 ≡ length line - 1 - 0 = omega arith in
-    subst P (sym (held-fed line (c .if-count-lt2 .left) (c .if-line-count-ne-LINE-FEED .left) ∙ ap (λ n. decoded (take n line)) cut)) (c .spelled .ensures)
+    subst P (sym (held-fed line (c .if-count-lt-SHORTEST-LINE .left) (c .if-line-count-ne-LINE-FEED .left) ∙ ap (λ n. decoded (take n line)) cut)) (c .spelled .ensures)
