@@ -20,7 +20,7 @@ const TEN: u8 = 10;
 const SHORTEST_LINE: usize = 2;
 
 // Why a line holds no bytes.
-#[derive(Clone, Copy, PartialEq, Eq, Debug)]
+#[derive(Clone, Copy)]
 pub enum DigitFault {
     // a foreign character, an odd digit count, an empty line or no line feed
     Spelling,

@@ -50,7 +50,7 @@ pub enum Frame {
 }
 
 // The kind of a frame.
-#[derive(Clone, Copy, PartialEq, Eq, Debug)]
+#[derive(Clone, Copy)]
 pub enum Kind {
     Domains,
     FlipFlop,
@@ -74,7 +74,7 @@ impl Frame {
 }
 
 // Why a line says no frame.
-#[derive(Clone, Copy, PartialEq, Eq, Debug)]
+#[derive(Clone, Copy)]
 pub enum FrameFault {
     // the line holds no bytes
     Spelling,

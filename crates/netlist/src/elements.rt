@@ -8,7 +8,7 @@ ghost use Rattle.circuit.specs.Sound.{hold-fits};
 mod figures;
 
 // A flip-flop with its setup time and its signed hold time.
-#[derive(Clone, Copy, PartialEq, Eq, Debug)]
+#[derive(Clone, Copy)]
 pub struct FlipFlop {
     setup: u16,
     hold: i16,
@@ -17,7 +17,7 @@ pub struct FlipFlop {
 }
 
 // A gate with its smaller and its larger delay.
-#[derive(Clone, Copy, PartialEq, Eq, Debug)]
+#[derive(Clone, Copy)]
 pub struct Gate {
     smaller: u16,
     larger: u16,
@@ -33,14 +33,14 @@ pub enum Place {
 }
 
 // A place as it is named from outside: class 0 is a flip-flop, class 1 a gate, any other is none.
-#[derive(Clone, Copy, PartialEq, Eq, Debug)]
+#[derive(Clone, Copy)]
 pub struct Terminal {
     pub class: u8,
     pub number: u16,
 }
 
 // A wire with its delay.
-#[derive(Clone, Copy, PartialEq, Eq, Debug)]
+#[derive(Clone, Copy)]
 pub struct Wire {
     start: Place,
     end: Place,

@@ -5,7 +5,7 @@ ghost use Rattle.netlist.specs.declared.faults.BlockFault.the-variants.{Memory
 use std::alloc::AllocError;
 
 // The fault of a block that grows.
-#[derive(Clone, Copy, PartialEq, Eq, Debug)]
+#[derive(Clone, Copy)]
 pub enum BlockFault {
     // a domain set outside its limits
     Domains,
