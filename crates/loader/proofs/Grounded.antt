@@ -4,6 +4,7 @@ use mathlib.Core.Bool.{Bool, true, false, _&&_}
 use mathlib.Core.Logic.{_⊎_, inl, inr}
 use mathlib.Core.List.{List}
 use Prim.Native.Nat.{ℕ}
+use native.Mathlib.Omega.{arith}
 use lib.ListN.{length}
 use lib.Dec.{ltb}
 use Rattle.std.specs.Options.{mapped}
@@ -53,34 +54,53 @@ ground-of block.Backward = ground.Backward
 ground-of block.Open = ground.Open
 ground-of block.Memory = ground.Open
 
-grounded : (o : Option BlockFault) (p : Option Ground) → p ≡ mapped ground-of o → (f : BlockFault) → o ≡ Some f → Breached (of-block f) p
-grounded o p e f h = by f (e ∙ ap (mapped ground-of) h)
+grounded : (o : Option BlockFault) (p : Option Ground) → p ≡ mapped ground-of o → (o ≡ Some block.Memory → ⊥) → (f : BlockFault) → o ≡ Some f → Breached (of-block f) p
+grounded o p e never f h = by f h (e ∙ ap (mapped ground-of) h)
   where
-    by : (f : BlockFault) → p ≡ Some (ground-of f) → Breached (of-block f) p
-    by block.Domains e = e
-    by block.Surplus e = e
-    by block.Delays e = e
-    by block.Absent e = e
-    by block.Backward e = e
-    by block.Open e = e
-    by block.Memory e = tt
+    by : (f : BlockFault) → o ≡ Some f → p ≡ Some (ground-of f) → Breached (of-block f) p
+    by block.Domains h e = e
+    by block.Surplus h e = e
+    by block.Delays h e = e
+    by block.Absent h e = e
+    by block.Backward h e = e
+    by block.Open h e = e
+    by block.Memory h e = absurd (never h)
 
 -- a test refuses in both alike
 alike : (t : Bool) (f : BlockFault) (next : Option BlockFault) (after : Option Ground) → after ≡ mapped ground-of next → refuse-unless t (ground-of f) after ≡ mapped ground-of (unless t f next)
 alike true f next after e = e
 alike false f next after e = refl
 
+-- no test refuses for want of memory
+no-memory : (t : Bool) (f : BlockFault) (next : Option BlockFault) → (f ≡ block.Memory → ⊥) → (next ≡ Some block.Memory → ⊥) → unless t f next ≡ Some block.Memory → ⊥
+no-memory true f next h k e = k e
+no-memory false f next h k e = h (cc)
+
+none-memory : None ≡ Some block.Memory → ⊥
+none-memory e = let z : _≡_ {A = ℕ} 0 1 = cc in omega arith
+
+apart : (f : BlockFault) → Refused (ground-of f) ≡ of-block f → f ≡ block.Memory → ⊥
+apart f r e = let z : _≡_ {A = ℕ} 0 1 = let k = ap of-block e in cc in omega arith
+
 -- why a wire was not taken
-pub wire-refused : (c : Circuit) (start end : Terminal) (delay : ℕ) (f : BlockFault) → (f ≡ block.Memory) ⊎ (wire-breach c start end ≡ Some f) → Breached (of-block f) (breach c (wire-frame start end delay))
-wire-refused c start end delay f (inl m) = let P : BlockFault → Type 0 = λ e. Breached (of-block e) (breach c (wire-frame start end delay)) in subst P (sym m) tt
-wire-refused c start end delay f (inr h) =
-    let flops = length (c .flops) in
-    let gates = length (c .gates) in
-    grounded (wire-breach c start end) (breach c (wire-frame start end delay))
-    (alike (ltb (length (c .wires)) most-wires) block.Surplus (link-breach c start end) _
-    (alike (known flops gates start && known flops gates end) block.Absent (unless (forward (place start) (place end)) block.Backward None) _
-    (alike (forward (place start) (place end)) block.Backward None None refl)))
-    f h
+pub wire-refused : (c : Circuit) (start end : Terminal) (delay : ℕ) (f : BlockFault) → ((f ≡ block.Memory) × (wire-breach c start end ≡ None)) ⊎ (wire-breach c start end ≡ Some f) → Breached (of-block f) (breach c (wire-frame start end delay))
+wire-refused c start end delay f why = by why
+  where
+    same : breach c (wire-frame start end delay) ≡ mapped ground-of (wire-breach c start end)
+    same =
+        alike (ltb (length (c .wires)) most-wires) block.Surplus (link-breach c start end) _
+        (alike (known (length (c .flops)) (length (c .gates)) start && known (length (c .flops)) (length (c .gates)) end) block.Absent (unless (forward (place start) (place end)) block.Backward None) _
+        (alike (forward (place start) (place end)) block.Backward None None refl))
+
+    never : wire-breach c start end ≡ Some block.Memory → ⊥
+    never =
+        no-memory (ltb (length (c .wires)) most-wires) block.Surplus (link-breach c start end) (apart block.Surplus refl)
+        (no-memory (known (length (c .flops)) (length (c .gates)) start && known (length (c .flops)) (length (c .gates)) end) block.Absent (unless (forward (place start) (place end)) block.Backward None) (apart block.Absent refl)
+        (no-memory (forward (place start) (place end)) block.Backward None (apart block.Backward refl) none-memory))
+
+    by : ((f ≡ block.Memory) × (wire-breach c start end ≡ None)) ⊎ (wire-breach c start end ≡ Some f) → Breached (of-block f) (breach c (wire-frame start end delay))
+    by (inl m) = let P : BlockFault → Type 0 = λ e. Breached (of-block e) (breach c (wire-frame start end delay)) in subst P (sym (m .0)) (same ∙ ap (mapped ground-of) (m .1))
+    by (inr h) = grounded (wire-breach c start end) (breach c (wire-frame start end delay)) same never f h
 
 -- a fault that is this ground, of a frame that is this one
 pub refuses : (fault : LineFault) (g : Ground) (c : Circuit) (f meant : Frame) → fault ≡ Refused g → f ≡ meant → breach c meant ≡ Some g → Breached fault (breach c f)

@@ -1,8 +1,10 @@
 -- What a frame of the frame layer means, and what its faults say.
 use mathlib.Core.Path.{_≡_}
+use mathlib.Core.Bool.{true}
 use mathlib.Core.List.{List}
 use Prim.Native.Nat.{ℕ}
 use Rattle.std.specs.Of.Vec.{vec-items}
+use Rattle.std.specs.Options.{isSome}
 use Rattle.std.specs.declared.option.Option.{Option}
 use Rattle.std.specs.declared.option.Option.the-variants.{Some, None}
 use Rattle.dumps.specs.Frame.{Frame as Meant, domains-frame, flop-frame, gate-frame, wire-frame, end-frame}
@@ -36,11 +38,11 @@ abbrev pub frame-fault : DigitFault → FrameFault
 frame-fault digit.Spelling = Spelling
 frame-fault digit.Memory = Memory
 
--- a fault of shape says that bytes write no frame, and want of memory says nothing
+-- a fault of shape says that bytes write no frame; memory is wanted only for bytes that write one
 abbrev pub Unparsed : FrameFault → Option Meant → Type 0
 Unparsed Spelling found = ⊥
 Unparsed Shape found = found ≡ None
-Unparsed Memory found = Unit {0}
+Unparsed Memory found = isSome found ≡ true
 
 -- a line says a frame: it holds bytes, and they write the frame
 abbrev pub Says-frame : List ℕ → Meant → Type 0

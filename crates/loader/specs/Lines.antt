@@ -1,7 +1,7 @@
 -- What the fault of one line says.
 use mathlib.Core.Path.{_≡_}
 use Rattle.std.specs.declared.option.Option.{Option}
-use Rattle.std.specs.declared.option.Option.the-variants.{Some}
+use Rattle.std.specs.declared.option.Option.the-variants.{Some, None}
 use Rattle.std.specs.declared.result.Result.{Result}
 use Rattle.std.specs.declared.result.Result.the-variants.{Err}
 use Rattle.dumps.specs.declared.ground.Ground.{Ground}
@@ -29,10 +29,10 @@ of-block block.Backward = Refused ground.Backward
 of-block block.Open = Refused ground.Open
 of-block block.Memory = Memory
 
--- the fault is this ground, and want of memory says nothing
+-- the fault is this ground; memory is wanted only where there is none
 abbrev pub Breached : LineFault → Option Ground → Type 0
 Breached (Refused g) breach = breach ≡ Some g
-Breached Memory breach = Unit {0}
+Breached Memory breach = breach ≡ None
 
 -- the same of a whole step
 abbrev pub Stopped : LineFault → Result State Ground → Type 0

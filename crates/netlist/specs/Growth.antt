@@ -43,10 +43,10 @@ abbrev pub link : Terminal → Terminal → ℕ → Wire
 link start end delay = record { start = place start; end = place end; delay = delay }
 
 -- an answer with the circuit before, what it would grow to, and the circuit after: grown where nothing is refused, and
--- as before at a refusal or for want of memory
+-- as before at a refusal; memory is wanted only where nothing is refused
 abbrev pub Grown : {X : Type 0} → Result X BlockFault → Option BlockFault → Circuit → Circuit → Circuit → Type 0
 Grown (Ok x) breach before more after = (breach ≡ None) × (after ≡ more)
-Grown (Err e) breach before more after = ((e ≡ Memory) ⊎ (breach ≡ Some e)) × (after ≡ before)
+Grown (Err e) breach before more after = (((e ≡ Memory) × (breach ≡ None)) ⊎ (breach ≡ Some e)) × (after ≡ before)
 
 -- ---- the calls: the circuit before, what is handed in, the answer, and the circuit afterwards
 
