@@ -11,6 +11,6 @@ use Rattle.loader.specs.declared.text.LoadError.{LoadError}
 use Rattle.loader.specs.declared.text.LoadError.the-variants.{Refused, Memory}
 use Rattle.loader.specs.Load.{LoadCall, load-answer, Refusing}
 
-pub refused-call : (text : List ℕ) (e : LoadError) (c : Circuit) → Refusing e (judge text) → c ≡ empty → LoadCall text (load-answer {X = Unit {0}} (Err e)) c
+pub refused-call : (text : List ℕ) (e : LoadError) (c : Circuit) → Refusing e text (judge text) → c ≡ empty → LoadCall text (load-answer {X = Unit {0}} (Err e)) c
 refused-call text (Refused ground at) c h e = (subst (Judged text) h (judged text), e)
-refused-call text Memory c h e = e
+refused-call text Memory c h e = (h, e)

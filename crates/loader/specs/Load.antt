@@ -39,26 +39,26 @@ error-line (Refused ground at) = Some at
 error-line Memory = None
 
 -- the text is a writing of the sound circuit that is left, or it has this refusal and the empty circuit is left;
--- want of memory leaves the empty circuit too
+-- want of memory leaves the empty circuit too, and an empty text wants none
 abbrev pub LoadCall : List ℕ → LoadAnswer → Circuit → Type 0
 LoadCall text loaded after = Judged text (accepted after)
 LoadCall text (refused-at number at) after = Judged text (refused number at) × (after ≡ empty)
-LoadCall text no-memory after = after ≡ empty
+LoadCall text no-memory after = (0 < length text) × (after ≡ empty)
 
 -- the fault of a line, with the line
 abbrev pub with-line : LineFault → ℕ → LoadError
 with-line (line.Refused ground) at = Refused ground at
 with-line line.Memory at = Memory
 
--- the error is this verdict, and want of memory says nothing
-abbrev pub Refusing : LoadError → Verdict → Type 0
-Refusing (Refused ground at) verdict = verdict ≡ refused (number-of ground) at
-Refusing Memory verdict = Unit {0}
+-- the error is this verdict; want of memory says only that there is a text
+abbrev pub Refusing : LoadError → List ℕ → Verdict → Type 0
+Refusing (Refused ground at) text verdict = verdict ≡ refused (number-of ground) at
+Refusing Memory text verdict = 0 < length text
 
 -- the block of an accepted text, or the error of a refused one
-abbrev pub TextRead : Result Block LoadError → Verdict → Type 0
-TextRead (Ok b) verdict = verdict ≡ accepted (circuit b)
-TextRead (Err e) verdict = Refusing e verdict
+abbrev pub TextRead : Result Block LoadError → List ℕ → Verdict → Type 0
+TextRead (Ok b) text verdict = verdict ≡ accepted (circuit b)
+TextRead (Err e) text verdict = Refusing e text verdict
 
 -- the first line of what is left of a text runs from here to there
 pub record FirstLine (text : List ℕ) (start end : ℕ) : Type 0 where

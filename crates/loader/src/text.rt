@@ -71,7 +71,7 @@ fn line_end(text: &[u8], start: usize) -> usize
 
 // The block that a text writes.
 fn read(text: &[u8], heap: Global) -> Result<Block, LoadError>
-    ensures { λ r. ⌜ TextRead r (judge (now (text .entry))) ⌝ }
+    ensures { λ r. ⌜ TextRead r (now (text .entry)) (judge (now (text .entry))) ⌝ }
 {
     let mut assembly = Assembly::new(heap);
     let mut start = 0;

@@ -50,7 +50,7 @@ returns-in-Err-finish c =
     let n = c .loop-start .line + 1 in
     let s = state-of (c .loop-start .assembly) in
     let inv = c .loop-start .inv in
-    let P : LoadError → Type 0 = λ e. Refusing e (judge text) in
+    let P : LoadError → Type 0 = λ e. Refusing e text (judge text) in
     ⊎-elim
     (λ h. subst P (sym (c .at-in-Err-finish .ensures ∙ ap (λ f. with-line f n) (h .1))) (inv .2 ∙ (ap (λ ys. run s n (lines ys)) (drop-all start text (c .loop-start-test .left)) ∙ run-short s n (h .0))))
     (λ h. absurd (h .1 (inv .3 (h .0))))
