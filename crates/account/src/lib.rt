@@ -1,4 +1,6 @@
 // The account of a dump, as the program prints it.
+#![tactic(auto)]
+
 ghost use Rattle.std.specs.Prelude.{◌≡◌, IfOk, string_bytes};
 ghost use Rattle.dumps.specs.Verdict.{accepted};
 ghost use Rattle.netlist.specs.Circuits.{circuit};

@@ -2,6 +2,8 @@
 //
 // A book is read so, with every count before what it counts:
 //   flip-flops, domains, floor, tables (rows (figures)), checks (start, end, table), a place where the checks are cut in two, periods (P, q)
+#![tactic(auto)]
+
 mod numbers;
 mod reports;
 

@@ -1,4 +1,6 @@
 // Reads a dump from standard input and prints the account of it.
+#![tactic(auto)]
+
 use account::{MOST_BYTES, account};
 use std::io::Read;
 

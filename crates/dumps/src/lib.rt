@@ -1,4 +1,6 @@
 // What a dump is, and on which ground a line of one is refused: specs/ holds the definitions, and the functions below carry the laws of them.
+#![tactic(auto)]
+
 mod ground;
 mod laws;
 

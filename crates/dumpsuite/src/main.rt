@@ -1,4 +1,6 @@
 // Reads many texts, with a separator between each two, and prints the account of each.
+#![tactic(auto)]
+
 ghost use Rattle.std.specs.Prelude.{◌≤◌, length};
 
 use account::account;

@@ -1,4 +1,6 @@
 // Schedules and settles any book of checks, without allocating.
+#![tactic(auto)]
+
 mod faults;
 mod lists;
 mod pairs;

@@ -1,7 +1,7 @@
 -- Lowest terms: Euclid's remainders, and the one fraction in lowest terms of each length.
 use Rattle.std.proofs.Common.{◌≡◌, ℕ, zero, suc, ◌+◌, ◌*◌, ◌/◌, ◌%◌, ◌<◌, ◌≤◌, sym, ap, ◌∙◌, subst, inl, inr, mod-lt, mul_assoc, mul_comm, add-mul, eq-zero-or-pos, one-mul, mul-one, div-le_self, mul_right_comm, arith}
 use Prim.Native.Nat.{◌∣◌}
-use native.Mathlib.Nat.{div-add-mod, eq_of_mul-eq-mul_right, dvd_refl, dvd-zero, dvd-mul_left, dvd-mul_right, dvd-mul_right_of_dvd, dvd-add_iff_right, dvd-mod_iff, dvd_antisymm, pos_of_dvd_of_pos, eq_one_of_dvd_one, mul-div_cancel', dvd_of_mul-dvd-mul_left, mul-dvd-mul_left}
+use native.Mathlib.Nat.{div-add-mod, eq_of_mul-eq-mul_right, dvd_refl, dvd-zero, dvd-mul_left, dvd-mul_right, dvd-mul_right_of_dvd, dvd-add_iff_right, dvd-mod_iff, dvd_antisymm, pos_of_dvd_of_pos, eq-one_of_dvd-one, mul-div_cancel', dvd_of_mul-dvd-mul_left, mul-dvd-mul_left}
 use Rattle.fractions.specs.Fraction.{Fraction, AsLong, Within, Coprime, GreatestDivisor, IsPeriod}
 
 pub greatest_zero : (a : ℕ) → GreatestDivisor a 0 a
@@ -28,7 +28,7 @@ pub greatest_coprime : (a b g : ℕ) → 0 < b → GreatestDivisor a b g → Cop
 greatest_coprime a b g h w d f s =
     let all : g * d ∣ g = w.greatest (g * d) (scaled a g d w.divides_first f) (scaled b g d w.divides_second s) in
     let one : g * d ∣ g * 1 = rw (mul-one g) all in
-    eq_one_of_dvd_one (dvd_of_mul-dvd-mul_left {k = g} d {n = 1} (greatest_positive a b g h w) one)
+    eq-one_of_dvd-one (dvd_of_mul-dvd-mul_left {k = g} d {n = 1} (greatest_positive a b g h w) one)
 
 -- a fraction within the limits, divided by the greatest divisor of its two numbers, is a period as long
 pub reduced : (n d g : ℕ) → Within (record { num = n; den = d }) → GreatestDivisor n d g → IsPeriod (record { num = n / g; den = d / g }) × AsLong (record { num = n / g; den = d / g }) (record { num = n; den = d })
@@ -50,7 +50,7 @@ reduced n d g v w =
     )
 
 pub coprime_one : (n : ℕ) → Coprime n 1
-coprime_one n d f s = eq_one_of_dvd_one s
+coprime_one n d f s = eq-one_of_dvd-one s
 
 -- a common divisor of a and b that takes over what divides both a * k and b * k
 abbrev Common : ℕ → ℕ → Type 0

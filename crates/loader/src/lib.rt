@@ -1,4 +1,6 @@
 // Reads the text of a dump into a block, or refuses it with a ground and a line.
+#![tactic(auto)]
+
 mod assembly;
 mod digits;
 mod faults;

@@ -1,4 +1,6 @@
 // A circuit block: its elements, its clock domains, the tables that hold them, and the changes of one element.
+#![tactic(auto)]
+
 mod block;
 mod domains;
 mod draft;

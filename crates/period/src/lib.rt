@@ -1,4 +1,6 @@
 // A clock period: an exact fraction in lowest terms, its order and its text.
+#![tactic(auto)]
+
 mod faults;
 mod laws;
 pub mod limits;

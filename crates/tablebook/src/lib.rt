@@ -1,4 +1,6 @@
 // The table book: checks whose needs are figures of tables, kept by the library keeper.
+#![tactic(auto)]
+
 mod faults;
 mod fitting;
 pub mod limits;

@@ -3,6 +3,8 @@
 // In the texts a frame reads so:
 //   01 Q count v v ..   02 X H   03 d D   04 class number class number w   05
 // with a count or class of two digits and every other field of four.
+#![tactic(auto)]
+
 #[cfg(test)]
 mod accepted;
 #[cfg(test)]
