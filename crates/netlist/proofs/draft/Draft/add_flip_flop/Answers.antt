@@ -32,9 +32,9 @@ pub returns : goal.returns
 returns c =
     let d = c.args.self.now in
     let n = length (drafted d).flops in
-    let room : n < most_flops = omega (arith, c.flip-flop-count.ensures) in (
+    let room : n < most_flops = omega (arith, c.flip_flop_count.ensures) in (
       passed (ltb n most_flops) Surplus None None (lt-ltb n most_flops room) refl,
       ap (with_flops (drafted d))
-          (pushed_map flop_of (vec_items d.flops.items) (vec_items c.push.new.self.items) c.new.result (record { setup = c.args.setup; hold = c.args.hold }) c.in-ok-push.ensures
+          (pushed_map flop_of (vec_items d.flops.items) (vec_items c.push.new.self.items) c.new.result (record { setup = c.args.setup; hold = c.args.hold }) c.in_ok-push.ensures
           (c.new.ensures ∙ ap (λ h. record { setup = c.args.setup; hold = h }) (to_z-of_z c.ranges.hold))),
     )

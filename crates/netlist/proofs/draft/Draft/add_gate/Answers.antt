@@ -33,8 +33,8 @@ pub returns : goal.returns
 returns c =
     let d = c.args.self.now in
     let n = length (drafted d).gates in
-    let room : n < most_gates = omega (arith, c.gate-count.ensures) in (
+    let room : n < most_gates = omega (arith, c.gate_count.ensures) in (
       passed (ltb n most_gates) Surplus _ None (lt-ltb n most_gates room) (passed (leb c.args.smaller c.args.larger) Delays None None (le-leb c.args.smaller c.args.larger c.in-Some.ensures.0) refl),
       ap (with_gates (drafted d))
-          (pushed_map gate_of (vec_items d.gates.items) (vec_items c.push.new.self.items) c.in-Some.gate (record { smaller = c.args.smaller; larger = c.args.larger }) c.in-ok-push.ensures c.in-Some.ensures.1),
+          (pushed_map gate_of (vec_items d.gates.items) (vec_items c.push.new.self.items) c.in-Some.gate (record { smaller = c.args.smaller; larger = c.args.larger }) c.in_ok-push.ensures c.in-Some.ensures.1),
     )

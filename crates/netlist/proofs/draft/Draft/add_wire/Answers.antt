@@ -35,9 +35,9 @@ pub returns : goal.returns
 returns c =
     let d = c.args.self.now in
     let n = length (drafted d).wires in
-    let made = c.in-ok-wire.ensures in
-    let room : n < most_wires = omega (arith, c.wire-count.ensures) in (
+    let made = c.in_ok-wire.ensures in
+    let room : n < most_wires = omega (arith, c.wire_count.ensures) in (
       passed (ltb n most_wires) Surplus (link_breach (drafted d) (terminal_of c.args.start) (terminal_of c.args.end)) None (lt-ltb n most_wires room) made.0,
       ap (with_wires (drafted d))
-          (pushed_map wire_of (vec_items d.wires.items) (vec_items c.push.new.self.items) c.in-ok-wire.wire (link (terminal_of c.args.start) (terminal_of c.args.end) c.args.delay) c.in-ok-push.ensures made.1),
+          (pushed_map wire_of (vec_items d.wires.items) (vec_items c.push.new.self.items) c.in_ok-wire.wire (link (terminal_of c.args.start) (terminal_of c.args.end) c.args.delay) c.in_ok-push.ensures made.1),
     )

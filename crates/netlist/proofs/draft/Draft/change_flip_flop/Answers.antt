@@ -36,7 +36,7 @@ pub returns : goal.returns
 returns c =
     let d = c.args.self.now in
     let xs = vec_items d.flops.items in
-    let within : c.args.number < length xs = ltb-true c.args.number (length xs) (sym c.in-Some.ensures.0) in
+    let within : c.args.number < length xs = ltb-true c.args.number (length xs) (sym c.in-Some.ensures.writes_back) in
     answers_made (c.args.number < length (drafted d).flops) (Unit {0}) (drafted d) _ _ (omega (arith, length-map xs flop_of)) tt
     (ap (with_flops (drafted d)) (map-set flop_of xs c.args.number c.new.result
     ∙ ap (set (map flop_of xs) c.args.number) (c.new.ensures ∙ ap (λ h. record { setup = c.args.setup; hold = h }) (to_z-of_z c.ranges.hold))))

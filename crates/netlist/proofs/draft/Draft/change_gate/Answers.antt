@@ -60,6 +60,6 @@ returns c =
     let d = c.args.self.now in
     let xs = vec_items d.gates.items in
     let g = c.in-Some-new.changed in
-    let within : c.args.number < length xs = ltb-true c.args.number (length xs) (sym c.in-Some.ensures.0) in
+    let within : c.args.number < length xs = ltb-true c.args.number (length xs) (sym c.in-Some.ensures.writes_back) in
     answers_made (c.args.number < length (drafted d).gates) (c.args.smaller ≤ c.args.larger) (drafted d) _ _ (omega (arith, length-map xs gate_of)) c.in-Some-new.ensures.0
     (ap (with_gates (drafted d)) (map-set gate_of xs c.args.number g ∙ ap (set (map gate_of xs) c.args.number) c.in-Some-new.ensures.1))

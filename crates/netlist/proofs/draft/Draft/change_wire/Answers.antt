@@ -42,8 +42,8 @@ returns c =
     let n = c.args.number in
     let old = c.in-Some.wire.now in
     let found = c.in-Some.ensures in
-    let within : n < length xs = ltb-true n (length xs) (sym found.0) in
+    let within : n < length xs = ltb-true n (length xs) (sym found.writes_back) in
     answers_made (n < length (drafted d).wires) (Unit {0}) (drafted d) _ _ (omega (arith, length-map xs wire_of)) tt
     (ap (with_wires (drafted d)) (map-set wire_of xs n c.set-delay.new.self
     ∙ (ap (set (map wire_of xs) n) c.set-delay.ensures
-    ∙ delayed_set (map wire_of xs) n c.args.delay (wire_of old) (ap wire_of found.1 ∙ sym (get_or-map wire_of xs n old (wire_of old) within)))))
+    ∙ delayed_set (map wire_of xs) n c.args.delay (wire_of old) (ap wire_of found.facts ∙ sym (get_or-map wire_of xs n old (wire_of old) within)))))

@@ -14,7 +14,7 @@ loop-wire-init c = (refl, refl, λ g l. get_or-replicate most_gates g false fals
 pub loop-wire-preserved : goal.loop-wire-preserved
 loop-wire-preserved c =
     let inv = c.loop-wire.invariant in
-    let ws = c.as-slice-wires.result.now in
+    let ws = c.as_slice-wires.result.now in
     let i = c.loop-wire.wire-index in
     let w = c.wire-item.result in
     let within : i < length ws = search rules in
