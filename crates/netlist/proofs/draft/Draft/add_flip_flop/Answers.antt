@@ -10,23 +10,20 @@ use Rattle.netlist.specs.Drafted.{drafted}
 use Rattle.netlist.proofs.Pushed.{pushed_few, pushed_longer, pushed_map}
 use Rattle.netlist.proofs.draft.Draft.add_flip_flop.Goals as goal
 
-pub invariant-of-self : goal.invariant-of-self
-invariant-of-self c =
+pub invariant_of-self : goal.invariant_of-self
+invariant_of-self c =
     let d = c.args.self.now in
     let xs = vec_items d.flops.items in
     let ys = vec_items c.push.new.self.items in
     let gates = length (drafted d).gates in
     let ok = is_ok c.push.result in
-    let room : length (drafted d).flops < most_flops = omega (arith, c.flip-flop-count.ensures) in (
-      pushed_few flop_of xs ys c.new.result ok most_flops c.push.ensures room,
-      (
-        d.few_gates,
-        (
-          d.few_wires,
-          (wired_more (length (map flop_of xs)) (length (map flop_of ys)) gates gates (pushed_longer flop_of xs ys c.new.result ok c.push.ensures) (omega arith) (drafted d).wires d.wired, tt),
-        ),
-      ),
-    )
+    let room : length (drafted d).flops < most_flops = omega (arith, c.flip_flop_count.ensures) in
+    record {
+      few_flops = pushed_few flop_of xs ys c.new.result ok most_flops c.push.ensures room;
+      few_gates = d.few_gates;
+      few_wires = d.few_wires;
+      wired = wired_more (length (map flop_of xs)) (length (map flop_of ys)) gates gates (pushed_longer flop_of xs ys c.new.result ok c.push.ensures) (omega arith) (drafted d).wires d.wired;
+    }
 
 pub returns : goal.returns
 returns c =

@@ -10,24 +10,21 @@ use Rattle.netlist.specs.Drafted.{drafted}
 use Rattle.netlist.proofs.Pushed.{pushed_few, pushed_longer, pushed_map}
 use Rattle.netlist.proofs.draft.Draft.add_gate.Goals as goal
 
-pub invariant-of-self : goal.invariant-of-self
-invariant-of-self c =
+pub invariant_of-self : goal.invariant_of-self
+invariant_of-self c =
     let d = c.args.self.now in
     let xs = vec_items d.gates.items in
     let ys = vec_items c.push.new.self.items in
     let flops = length (drafted d).flops in
     let ok = is_ok c.push.result in
     let g = c.in-Some.gate in
-    let room : length (drafted d).gates < most_gates = omega (arith, c.gate-count.ensures) in (
-      d.few_flops,
-      (
-        pushed_few gate_of xs ys g ok most_gates c.push.ensures room,
-        (
-          d.few_wires,
-          (wired_more flops flops (length (map gate_of xs)) (length (map gate_of ys)) (omega arith) (pushed_longer gate_of xs ys g ok c.push.ensures) (drafted d).wires d.wired, tt),
-        ),
-      ),
-    )
+    let room : length (drafted d).gates < most_gates = omega (arith, c.gate_count.ensures) in
+    record {
+      few_flops = d.few_flops;
+      few_gates = pushed_few gate_of xs ys g ok most_gates c.push.ensures room;
+      few_wires = d.few_wires;
+      wired = wired_more flops flops (length (map gate_of xs)) (length (map gate_of ys)) (omega arith) (pushed_longer gate_of xs ys g ok c.push.ensures) (drafted d).wires d.wired;
+    }
 
 pub returns : goal.returns
 returns c =

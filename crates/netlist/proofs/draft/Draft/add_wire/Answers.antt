@@ -11,25 +11,22 @@ use Rattle.netlist.specs.Drafted.{drafted}
 use Rattle.netlist.proofs.Pushed.{pushed_few, pushed_every, pushed_map}
 use Rattle.netlist.proofs.draft.Draft.add_wire.Goals as goal
 
-pub invariant-of-self : goal.invariant-of-self
-invariant-of-self c =
+pub invariant_of-self : goal.invariant_of-self
+invariant_of-self c =
     let d = c.args.self.now in
     let xs = vec_items d.wires.items in
     let ys = vec_items c.push.new.self.items in
-    let w = c.in-ok-wire.wire in
+    let w = c.in_ok-wire.wire in
     let ok = is_ok c.push.result in
-    let made = c.in-ok-wire.ensures in
+    let made = c.in_ok-wire.ensures in
     let test = runs (length (drafted d).flops) (length (drafted d).gates) in
-    let room : length (drafted d).wires < most_wires = omega (arith, c.wire-count.ensures) in (
-      d.few_flops,
-      (
-        d.few_gates,
-        (
-          pushed_few wire_of xs ys w ok most_wires c.push.ensures room,
-          (pushed_every wire_of xs ys w test ok c.push.ensures d.wired (ap test made.1 ∙ linked_runs (drafted d) (terminal_of c.args.start) (terminal_of c.args.end) c.args.delay made.0), tt),
-        ),
-      ),
-    )
+    let room : length (drafted d).wires < most_wires = omega (arith, c.wire_count.ensures) in
+    record {
+      few_flops = d.few_flops;
+      few_gates = d.few_gates;
+      few_wires = pushed_few wire_of xs ys w ok most_wires c.push.ensures room;
+      wired = pushed_every wire_of xs ys w test ok c.push.ensures d.wired (ap test made.1 ∙ linked_runs (drafted d) (terminal_of c.args.start) (terminal_of c.args.end) c.args.delay made.0);
+    }
 
 pub returns : goal.returns
 returns c =

@@ -10,33 +10,30 @@ use Rattle.netlist.proofs.Answered.{answers_missing, answers_made}
 use Rattle.netlist.specs.Drafted.{drafted}
 use Rattle.netlist.proofs.draft.Draft.change_flip_flop.Goals as goal
 
-pub returns-in-default : goal.returns-in-default
-returns-in-default c =
+pub returns-in_default : goal.returns-in_default
+returns-in_default c =
     let d = c.args.self.now in
     let xs = vec_items d.flops.items in
-    let past : length xs ≤ c.args.number = ltb-false c.args.number (length xs) (sym c.in-default.ensures.0) in
+    let past : length xs ≤ c.args.number = ltb-false c.args.number (length xs) (sym c.in_default.ensures.facts.0) in
     answers_missing (c.args.number < length (drafted d).flops) (Unit {0}) (drafted d) _ _ (λ l. omega (arith, length-map xs flop_of)) refl
 
-pub invariant-of-self-2 : goal.invariant-of-self-2
-invariant-of-self-2 c =
+pub invariant_of-self-2 : goal.invariant_of-self-2
+invariant_of-self-2 c =
     let d = c.args.self.now in
     let xs = vec_items d.flops.items in
-    let wires : ℕ → Type 0 = λ n. every (runs n (length (drafted d).gates)) (drafted d).wires ≡ true in (
-      lent_few flop_of xs c.args.number c.new.result most_flops d.few_flops,
-      (
-        d.few_gates,
-        (
-          d.few_wires,
-          (subst wires (sym (lent_length flop_of xs c.args.number c.new.result)) d.wired, tt),
-        ),
-      ),
-    )
+    let wires : ℕ → Type 0 = λ n. every (runs n (length (drafted d).gates)) (drafted d).wires ≡ true in
+    record {
+      few_flops = lent_few flop_of xs c.args.number c.new.result most_flops d.few_flops;
+      few_gates = d.few_gates;
+      few_wires = d.few_wires;
+      wired = subst wires (sym (lent_length flop_of xs c.args.number c.new.result)) d.wired;
+    }
 
 pub returns : goal.returns
 returns c =
     let d = c.args.self.now in
     let xs = vec_items d.flops.items in
-    let within : c.args.number < length xs = ltb-true c.args.number (length xs) (sym c.in-Some.ensures.writes_back) in
+    let within : c.args.number < length xs = ltb-true c.args.number (length xs) (sym c.in-Some.ensures.facts.0) in
     answers_made (c.args.number < length (drafted d).flops) (Unit {0}) (drafted d) _ _ (omega (arith, length-map xs flop_of)) tt
     (ap (with_flops (drafted d)) (map-set flop_of xs c.args.number c.new.result
     ∙ ap (set (map flop_of xs) c.args.number) (c.new.ensures ∙ ap (λ h. record { setup = c.args.setup; hold = h }) (to_z-of_z c.ranges.hold))))

@@ -10,56 +10,50 @@ use Rattle.netlist.proofs.Answered.{answers_missing, answers_crossed, answers_ma
 use Rattle.netlist.specs.Drafted.{drafted}
 use Rattle.netlist.proofs.draft.Draft.change_gate.Goals as goal
 
-pub returns-in-default : goal.returns-in-default
-returns-in-default c =
+pub returns-in_default : goal.returns-in_default
+returns-in_default c =
     let d = c.args.self.now in
     let xs = vec_items d.gates.items in
-    let past : length xs ≤ c.args.number = ltb-false c.args.number (length xs) (sym c.in-default.ensures.0) in
+    let past : length xs ≤ c.args.number = ltb-false c.args.number (length xs) (sym c.in_default.ensures.facts.0) in
     answers_missing (c.args.number < length (drafted d).gates) (c.args.smaller ≤ c.args.larger) (drafted d) _ _ (λ l. omega (arith, length-map xs gate_of)) refl
 
-pub invariant-of-self-in-default-new : goal.invariant-of-self-in-default-new
-invariant-of-self-in-default-new c =
+pub invariant_of-self-in_default-new : goal.invariant_of-self-in_default-new
+invariant_of-self-in_default-new c =
     let d = c.args.self.now in
     let xs = vec_items d.gates.items in
-    let wires : ℕ → Type 0 = λ n. every (runs (length (drafted d).flops) n) (drafted d).wires ≡ true in (
-      d.few_flops,
-      (
-        lent_few gate_of xs c.args.number c.in-Some.gate.now most_gates d.few_gates,
-        (
-          d.few_wires,
-          (subst wires (sym (lent_length gate_of xs c.args.number c.in-Some.gate.now)) d.wired, tt),
-        ),
-      ),
-    )
+    let wires : ℕ → Type 0 = λ n. every (runs (length (drafted d).flops) n) (drafted d).wires ≡ true in
+    record {
+      few_flops = d.few_flops;
+      few_gates = lent_few gate_of xs c.args.number c.in-Some.gate.now most_gates d.few_gates;
+      few_wires = d.few_wires;
+      wired = subst wires (sym (lent_length gate_of xs c.args.number c.in-Some.gate.now)) d.wired;
+    }
 
-pub returns-in-default-new : goal.returns-in-default-new
-returns-in-default-new c =
+pub returns-in_default-new : goal.returns-in_default-new
+returns-in_default-new c =
     let d = c.args.self.now in
     let xs = vec_items d.gates.items in
-    let within : c.args.number < length xs = ltb-true c.args.number (length xs) (sym c.in-Some.ensures.0) in
-    answers_crossed (c.args.number < length (drafted d).gates) (c.args.smaller ≤ c.args.larger) (drafted d) _ _ (omega (arith, length-map xs gate_of)) (λ l. omega (arith, c.in-default-new.ensures))
-    (ap (λ zs. with_gates (drafted d) (map gate_of zs)) (lent_back gate_of xs c.args.number c.in-Some.gate.now c.in-Some.ensures.1))
+    let within : c.args.number < length xs = ltb-true c.args.number (length xs) (sym c.in-Some.ensures.facts.0) in
+    answers_crossed (c.args.number < length (drafted d).gates) (c.args.smaller ≤ c.args.larger) (drafted d) _ _ (omega (arith, length-map xs gate_of)) (λ l. omega (arith, c.in_default-new.ensures))
+    (ap (λ zs. with_gates (drafted d) (map gate_of zs)) (lent_back gate_of xs c.args.number c.in-Some.gate.now c.in-Some.ensures.facts.1))
 
-pub invariant-of-self-2 : goal.invariant-of-self-2
-invariant-of-self-2 c =
+pub invariant_of-self-2 : goal.invariant_of-self-2
+invariant_of-self-2 c =
     let d = c.args.self.now in
     let xs = vec_items d.gates.items in
-    let wires : ℕ → Type 0 = λ n. every (runs (length (drafted d).flops) n) (drafted d).wires ≡ true in (
-      d.few_flops,
-      (
-        lent_few gate_of xs c.args.number c.in-Some-new.changed most_gates d.few_gates,
-        (
-          d.few_wires,
-          (subst wires (sym (lent_length gate_of xs c.args.number c.in-Some-new.changed)) d.wired, tt),
-        ),
-      ),
-    )
+    let wires : ℕ → Type 0 = λ n. every (runs (length (drafted d).flops) n) (drafted d).wires ≡ true in
+    record {
+      few_flops = d.few_flops;
+      few_gates = lent_few gate_of xs c.args.number c.in-Some-new.changed most_gates d.few_gates;
+      few_wires = d.few_wires;
+      wired = subst wires (sym (lent_length gate_of xs c.args.number c.in-Some-new.changed)) d.wired;
+    }
 
 pub returns : goal.returns
 returns c =
     let d = c.args.self.now in
     let xs = vec_items d.gates.items in
     let g = c.in-Some-new.changed in
-    let within : c.args.number < length xs = ltb-true c.args.number (length xs) (sym c.in-Some.ensures.writes_back) in
+    let within : c.args.number < length xs = ltb-true c.args.number (length xs) (sym c.in-Some.ensures.facts.0) in
     answers_made (c.args.number < length (drafted d).gates) (c.args.smaller ≤ c.args.larger) (drafted d) _ _ (omega (arith, length-map xs gate_of)) c.in-Some-new.ensures.0
     (ap (with_gates (drafted d)) (map-set gate_of xs c.args.number g ∙ ap (set (map gate_of xs) c.args.number) c.in-Some-new.ensures.1))

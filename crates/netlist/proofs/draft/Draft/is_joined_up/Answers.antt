@@ -26,17 +26,17 @@ loop-wire-preserved c =
       (λ g l. c.mark-in-loop-wire.ensures g (omega (arith, inv.1)) ∙ (ap (λ p. get_or c.loop-wire.drained g false || is_gate g p) c.start.ensures ∙ marked_more wire_of (leaves g) ws i w (get_or c.loop-wire.drained g false) within c.wire-item.is (inv.3 g l))),
     )
 
-pub returns-then-all-marked : goal.returns-then-all-marked
-returns-then-all-marked c =
+pub returns-then-all_marked : goal.returns-then-all_marked
+returns-then-all_marked c =
     let d = c.args.self.now in
     let inv = c.loop-wire.invariant in
-    let ws = c.as-slice-wires.result.now in
+    let ws = c.as_slice-wires.result.now in
     let i = c.loop-wire.wire-index in
-    let whole = take_all i ws (search rules) ∙ c.as-slice-wires.ensures in
+    let whole = take_all i ws (search rules) ∙ c.as_slice-wires.ensures in
     let few : length (drafted d).gates ≤ most_gates = d.few_gates in
-    let counted = c.gate-count-gates.ensures in
-    let fed = c.all-marked.ensures.0 c.if-all-marked.true in
-    let drained = c.all-marked-then-all-marked.ensures in (
+    let counted = c.gate_count-gates.ensures in
+    let fed = c.all_marked.ensures.0 c.if-all_marked.true in
+    let drained = c.all_marked-then-all_marked.ensures in (
       (λ t. (
         (λ g l. sym (inv.2 g (omega arith) ∙ ap (λ xs. any (enters g) (map wire_of xs)) whole) ∙ fed g (omega (arith, counted))),
         (λ g l. sym (inv.3 g (omega arith) ∙ ap (λ xs. any (leaves g) (map wire_of xs)) whole) ∙ drained.0 t g (omega (arith, counted))),
@@ -44,15 +44,15 @@ returns-then-all-marked c =
       (λ p. drained.1 (λ g l. (inv.3 g (omega (arith, counted)) ∙ ap (λ xs. any (leaves g) (map wire_of xs)) whole) ∙ p.1 g (omega (arith, counted)))),
     )
 
-pub returns-else-all-marked : goal.returns-else-all-marked
-returns-else-all-marked c =
+pub returns-else-all_marked : goal.returns-else-all_marked
+returns-else-all_marked c =
     let d = c.args.self.now in
     let inv = c.loop-wire.invariant in
-    let ws = c.as-slice-wires.result.now in
+    let ws = c.as_slice-wires.result.now in
     let i = c.loop-wire.wire-index in
-    let whole = take_all i ws (search rules) ∙ c.as-slice-wires.ensures in
+    let whole = take_all i ws (search rules) ∙ c.as_slice-wires.ensures in
     let few : length (drafted d).gates ≤ most_gates = d.few_gates in
-    let counted = c.gate-count-gates.ensures in (
-      (λ t. absurd (false≢true (sym c.if-all-marked.false ∙ t))),
-      (λ p. c.all-marked.ensures.1 (λ g l. (inv.2 g (omega (arith, counted)) ∙ ap (λ xs. any (enters g) (map wire_of xs)) whole) ∙ p.0 g (omega (arith, counted)))),
+    let counted = c.gate_count-gates.ensures in (
+      (λ t. absurd (false≢true (sym c.if-all_marked.false ∙ t))),
+      (λ p. c.all_marked.ensures.1 (λ g l. (inv.2 g (omega (arith, counted)) ∙ ap (λ xs. any (enters g) (map wire_of xs)) whole) ∙ p.0 g (omega (arith, counted)))),
     )
