@@ -32,7 +32,7 @@ shown (refused number line) = refusal_line number line (reason number)
 
 -- the bytes tell this refusal; want of memory is told by no bytes
 abbrev pub Tells : LoadError → List ℕ → Type 0
-Tells (Refused ground line) bytes = bytes ≡ shown (refused (number_of ground) line)
+Tells (Refused why line) bytes = bytes ≡ shown (refused (number_of why) line)
 Tells Memory bytes = ⊥
 
 pub data Account (text : List ℕ) : List ℕ → Type 0 where

@@ -19,16 +19,16 @@ pub data LoadAnswer : Type 0 where
 
 abbrev pub load_answer : {X : Type 0} → Result X LoadError → LoadAnswer
 load_answer (Ok x) = loaded
-load_answer (Err (Refused ground at)) = refused_at (number_of ground) at
+load_answer (Err (Refused why at)) = refused_at (number_of why) at
 load_answer (Err Memory) = no_memory
 
 -- the number and the line of an error, as its answer has them
 abbrev pub error_number : LoadError → Option ℕ
-error_number (Refused ground at) = Some (number_of ground)
+error_number (Refused why at) = Some (number_of why)
 error_number Memory = None
 
 abbrev pub error_line : LoadError → Option ℕ
-error_line (Refused ground at) = Some at
+error_line (Refused why at) = Some at
 error_line Memory = None
 
 -- the text is a writing of the sound circuit that is left, or it has this refusal and the empty circuit is left;
@@ -40,12 +40,12 @@ LoadCall text no_memory after = (0 < length text) × (after ≡ empty)
 
 -- the fault of a line, with the line
 abbrev pub with_line : LineFault → ℕ → LoadError
-with_line (line.Refused ground) at = Refused ground at
+with_line (line.Refused why) at = Refused why at
 with_line line.Memory at = Memory
 
 -- the error is this verdict; want of memory says only that there is a text
 abbrev pub Refusing : LoadError → List ℕ → Verdict → Type 0
-Refusing (Refused ground at) text verdict = verdict ≡ refused (number_of ground) at
+Refusing (Refused why at) text verdict = verdict ≡ refused (number_of why) at
 Refusing Memory text verdict = 0 < length text
 
 -- the block of an accepted text, or the error of a refused one

@@ -10,46 +10,46 @@ use Rattle.loader.specs.Lines.{Breached, of_block_lem}
 use Rattle.loader.proofs.Grounded.{refuses, domains_refused, domains_free, end_refused, end_free, wire_refused}
 use Rattle.loader.proofs.assembly.put.Goals as goal
 
-pub returns-in-err-set-domains : goal.returns-in-err-set-domains
-returns-in-err-set-domains c =
+pub returns-in_err-set_domains-in-Domains : goal.returns-in_err-set_domains-in-Domains
+returns-in_err-set_domains-in-Domains c =
     let k = drafted c.args.draft.now in
     let parts = c.in-Domains.parts in
     let skews = c.deref.result.now in
-    let p = err_from_is_err_and c.from-residual.result c.from-residual.ensures.1 in
-    let f = c.in-err-set-domains.field-0.0 in
-    let e = c.in-err-set-domains.ensures in
+    let p = err_from_is_err_and c.from_residual.result c.from_residual.ensures.1 in
+    let f = c.in_err-set_domains-in-Domains.field-0.0 in
+    let e = c.in_err-set_domains-in-Domains.ensures in
     rw (p.1, p.2)
     (refuses (of_block_lem f) ground.Domains k (frame_of c.args.frame) (domains_frame parts skews) (ap of_block_lem e.0)
     (ap frame_of c.in-Domains.is ∙ ap (domains_frame parts) (sym c.deref.ensures.value))
     (domains_refused k parts skews e.1))
 
-pub returns-in-err-add-wire : goal.returns-in-err-add-wire
-returns-in-err-add-wire c =
+pub returns-in_err-add_wire-in-Wire : goal.returns-in_err-add_wire-in-Wire
+returns-in_err-add_wire-in-Wire c =
     let k = drafted c.args.draft.now in
-    let p = err_from_is_err_and c.from-residual-in-err-add-wire.result c.from-residual-in-err-add-wire.ensures.1 in
-    let f = c.in-err-add-wire.field-0.0 in
+    let p = err_from_is_err_and c.from_residual-in_err-add_wire-in-Wire.result c.from_residual-in_err-add_wire-in-Wire.ensures.1 in
+    let f = c.in_err-add_wire-in-Wire.field-0.0 in
     let P : Frame → Type 0 = λ m. Breached (of_block_lem f) (breach k m) in
-    rw (p.1, p.2) (subst P (sym (ap frame_of c.in-Wire.is)) (wire_refused k (terminal_of c.in-Wire.start) (terminal_of c.in-Wire.end) c.in-Wire.delay f c.in-err-add-wire.ensures.0))
+    rw (p.1, p.2) (subst P (sym (ap frame_of c.in-Wire.is)) (wire_refused k (terminal_of c.in-Wire.start) (terminal_of c.in-Wire.end) c.in-Wire.delay f c.in_err-add_wire-in-Wire.ensures.0))
 
-pub returns-in-err-close : goal.returns-in-err-close
-returns-in-err-close c =
+pub returns-in_err-close-in-End : goal.returns-in_err-close-in-End
+returns-in_err-close-in-End c =
     let k = drafted c.args.draft.now in
-    let p = err_from_is_err_and c.from-residual-in-err-close.result c.from-residual-in-err-close.ensures.1 in
-    let f = c.in-err-close.field-0.0 in
-    let e = c.in-err-close.ensures in
+    let p = err_from_is_err_and c.from_residual-in_err-close-in-End.result c.from_residual-in_err-close-in-End.ensures.1 in
+    let f = c.in_err-close-in-End.field-0.0 in
+    let e = c.in_err-close-in-End.ensures in
     rw (p.1, p.2) (refuses (of_block_lem f) ground.Open k (frame_of c.args.frame) end_frame (ap of_block_lem e.0) (ap frame_of c.in-End.is) (end_refused k e.1))
 
-pub returns-in-ok-set-domains : goal.returns-in-ok-set-domains
-returns-in-ok-set-domains c =
+pub returns-in_ok-set_domains-in-Domains : goal.returns-in_ok-set_domains-in-Domains
+returns-in_ok-set_domains-in-Domains c =
     let k = drafted c.args.draft.now in
     let parts = c.in-Domains.parts in
     let skews = c.deref.result.now in
-    let made = c.in-ok-set-domains.ensures in
+    let made = c.in_ok-set_domains-in-Domains.ensures in
     let meant = ap frame_of c.in-Domains.is ∙ ap (domains_frame parts) (sym c.deref.ensures.value) in
     (ap (breach k) meant ∙ domains_free k parts skews made.0, made.1 ∙ sym (ap (grown k) meant))
 
-pub returns-in-ok-close : goal.returns-in-ok-close
-returns-in-ok-close c =
+pub returns-in_ok-close-in-End : goal.returns-in_ok-close-in-End
+returns-in_ok-close-in-End c =
     let k = drafted c.args.draft.now in
     let meant = ap frame_of c.in-End.is in
-    (ap (breach k) meant ∙ end_free k c.in-ok-close.ensures, sym (ap (grown k) meant))
+    (ap (breach k) meant ∙ end_free k c.in_ok-close-in-End.ensures, sym (ap (grown k) meant))

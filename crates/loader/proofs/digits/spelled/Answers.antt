@@ -8,5 +8,5 @@ loop-rest-preserved c =
     let rest = c.loop-rest.rest.now in
     let long : 2 ≤ length rest = search rules in
     c.loop-rest.invariant
-    ∙ (after_two (vec_items c.loop-rest.bytes) rest c.in-ok-value.field-0 c.in-ok-value-2.field-0 long c.in-ok-value.ensures c.in-ok-value-2.ensures
-    ∙ ap (λ bytes. after bytes (decoded (take (length rest - 2) (drop 2 rest)))) (sym c.in-ok-push.ensures.items))
+    ∙ (after_two (vec_items c.loop-rest.bytes) rest c.in_ok-value.field-0 c.in_ok-value-2.field-0 long c.in_ok-value.ensures c.in_ok-value-2.ensures
+    ∙ ap (λ bytes. after bytes (decoded (take (length rest - 2) (drop 2 rest)))) (sym c.in_ok-push.ensures.items))

@@ -11,4 +11,4 @@ loop-rest-preserved c =
     let long : 2 ≤ length rest = search rules in
     c.loop-rest.invariant
     ∙ (numbers_more all rest long
-    ∙ ap (λ xs. xs ++ left) (ap (λ n. all ++ (n ∷ [])) (sym c.from-be-bytes.ensures) ∙ sym c.in-ok-push.ensures.items))
+    ∙ ap (λ xs. xs ++ left) (ap (λ n. all ++ (n ∷ [])) (sym c.from_be_bytes.ensures) ∙ sym c.in_ok-push.ensures.items))

@@ -2,13 +2,13 @@ use Rattle.std.proofs.Common.{◌<◌, ◌≤◌, length, arith, rules}
 use Rattle.loader.proofs.Cuts.{line_cut, line_rest}
 use Rattle.loader.proofs.text.line_end.Goals as goal
 
-pub returns-then-text-at-eq-LINE-FEED : goal.returns-then-text-at-eq-LINE-FEED
-returns-then-text-at-eq-LINE-FEED c =
+pub returns-then-text-at-eq-LINE_FEED : goal.returns-then-text-at-eq-LINE_FEED
+returns-then-text-at-eq-LINE_FEED c =
     let text = c.args.text.now in
     let at = c.loop-at.at in
     let from : c.args.start ≤ at = search rules in
     let within : at < length text = search rules in
-    record { some_byte = omega arith; within = omega arith; cut = line_cut text c.args.start at from within c.loop-at.invariant c.if-text-at-eq-LINE-FEED.true }
+    record { some_byte = omega arith; within = omega arith; cut = line_cut text c.args.start at from within c.loop-at.invariant c.if-text-at-eq-LINE_FEED.true }
 
 pub returns : goal.returns
 returns c =
