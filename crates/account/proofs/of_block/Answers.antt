@@ -7,16 +7,16 @@ use Rattle.account.proofs.of_block.Goals as goal
 pub returns : goal.returns
 returns c =
     let k = circuit c.args.block.now in
-    let skews = string_bytes c.in-ok-skews.skews in
-    let flops = c.flip-flop-count-flops.result in
-    let gates = c.gate-count-gates.result in
-    let wires = c.wire-count-wires.result in
+    let skews = string_bytes c.in_ok-skews.skews in
+    let flops = c.flip_flop_count-flops.result in
+    let gates = c.gate_count-gates.result in
+    let wires = c.wire_count-wires.result in
     let words = skew_words k.skews in
     IfOk-weaker c.format.result _ _
     (λ s h. h
     ∙ (ap (λ p. block_lines p skews flops gates wires) c.parts-parts.ensures
-    ∙ (ap (λ v. block_lines k.parts v flops gates wires) c.in-ok-skews.ensures
-    ∙ (ap (λ n. block_lines k.parts words n gates wires) c.flip-flop-count-flops.ensures
-    ∙ (ap (λ n. block_lines k.parts words (length k.flops) n wires) c.gate-count-gates.ensures
-    ∙ ap (block_lines k.parts words (length k.flops) (length k.gates)) c.wire-count-wires.ensures)))))
+    ∙ (ap (λ v. block_lines k.parts v flops gates wires) c.in_ok-skews.ensures
+    ∙ (ap (λ n. block_lines k.parts words n gates wires) c.flip_flop_count-flops.ensures
+    ∙ (ap (λ n. block_lines k.parts words (length k.flops) n wires) c.gate_count-gates.ensures
+    ∙ ap (block_lines k.parts words (length k.flops) (length k.gates)) c.wire_count-wires.ensures)))))
     c.format.ensures.ok

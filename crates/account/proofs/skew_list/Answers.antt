@@ -12,8 +12,8 @@ loop-skew-preserved c =
     let found = sym c.in-Some.ensures in
     let within : n < length skews = next_within skews n v found in (
       omega arith,
-      c.in-ok-push-str.ensures.bytes
-          ∙ (ap (λ bytes. bytes ++ c.as-str.result.now) c.loop-skew.invariant.1
-          ∙ (ap (λ bytes. skew_words (take n skews) ++ bytes) (c.as-str.ensures.value ∙ c.in-ok-word.ensures.ok)
+      c.in_ok-push_str.ensures.bytes
+          ∙ (ap (λ bytes. bytes ++ c.as_str.result.now) c.loop-skew.invariant.1
+          ∙ (ap (λ bytes. skew_words (take n skews) ++ bytes) (c.as_str.ensures.value ∙ c.in_ok-word.ensures.ok)
           ∙ sym (words_more skews n v found))),
     )
