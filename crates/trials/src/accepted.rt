@@ -153,7 +153,7 @@ fn check_accepted(rt: &impl Abort, heap: Global, cases: &[Case]) -> Result<(), F
         assert_eq!(rt; verdict(WHOLE, heap, &mut block)?, ACCEPTED, "{}", *name);
         for _ in 0..2 {
             assert_eq!(rt; verdict(text, heap, &mut block)?, ACCEPTED, "{}", *name);
-            check_block(rt, &block, *figures).note(*name)?;
+            check_block(rt, name, &block, *figures);
         }
     }
     Ok(())
@@ -174,13 +174,14 @@ fn elements(rt: HostRuntime) -> Result<(), Fail> {
 fn turns(rt: HostRuntime) -> Result<(), Fail> {
     let heap = rt.alloc();
     let mut block = Block::new(heap);
-    check_block(&rt, &block, EMPTY).note("new")?;
+    check_block(&rt, &"new", &block, EMPTY);
     assert_eq!(rt; verdict(WHOLE, heap, &mut block)?, ACCEPTED);
-    check_block(&rt, &block, WHOLE_FIGURES).note("loaded")?;
+    check_block(&rt, &"loaded", &block, WHOLE_FIGURES);
     assert_eq!(rt; verdict("", heap, &mut block)?, (3, 1));
-    check_block(&rt, &block, EMPTY).note("refused")?;
+    check_block(&rt, &"refused", &block, EMPTY);
     assert_eq!(rt; verdict("05\n", heap, &mut block)?, (3, 1));
-    check_block(&rt, &block, EMPTY).note("refused again")?;
+    check_block(&rt, &"refused again", &block, EMPTY);
     assert_eq!(rt; verdict(WHOLE, heap, &mut block)?, ACCEPTED);
-    check_block(&rt, &block, WHOLE_FIGURES).note("loaded again")
+    check_block(&rt, &"loaded again", &block, WHOLE_FIGURES);
+    Ok(())
 }

@@ -216,10 +216,10 @@ fn apply(block: &mut Block, change: Change) -> Answer {
     }
 }
 
-fn check_change(rt: &impl Abort, block: &mut Block, case: &Case) -> Result<(), Fail> {
+fn check_change(rt: &impl Abort, block: &mut Block, case: &Case) {
     let (change, answer, after) = case;
     assert_eq!(rt; apply(block, *change), *answer, "{change:?}");
-    check_block(rt, block, *after).note(format_args!("{change:?}"))
+    check_block(rt, change, block, *after);
 }
 
 // Makes each change in a block of its own.
@@ -229,7 +229,7 @@ fn apart(rt: HostRuntime) -> Result<(), Fail> {
         for case in table {
             let mut block = Block::new(rt.alloc());
             assert_eq!(rt; verdict(TEXT, rt.alloc(), &mut block)?, ACCEPTED);
-            check_change(&rt, &mut block, case)?;
+            check_change(&rt, &mut block, case);
         }
     }
     Ok(())
@@ -240,13 +240,14 @@ fn apart(rt: HostRuntime) -> Result<(), Fail> {
 fn in_turn(rt: HostRuntime) -> Result<(), Fail> {
     let mut block = Block::new(rt.alloc());
     for case in IN_EMPTY {
-        check_change(&rt, &mut block, case)?;
+        check_change(&rt, &mut block, case);
     }
     assert_eq!(rt; verdict(TEXT, rt.alloc(), &mut block)?, ACCEPTED);
-    check_block(&rt, &block, BEFORE)?;
+    check_block(&rt, &"loaded", &block, BEFORE);
     for case in IN_TURN {
-        check_change(&rt, &mut block, case)?;
+        check_change(&rt, &mut block, case);
     }
     assert_eq!(rt; verdict(TEXT, rt.alloc(), &mut block)?, ACCEPTED);
-    check_block(&rt, &block, BEFORE).note("loaded again")
+    check_block(&rt, &"loaded again", &block, BEFORE);
+    Ok(())
 }

@@ -3,7 +3,7 @@ use crate::figures::{EMPTY, check_block, flop_at, gate_at, wire_at};
 use crate::loads::{ACCEPTED, verdict};
 use netlist::{Block, ChangeFault, Place};
 use std::alloc::Global;
-use std::fmt::Write;
+use std::fmt::{Debug, Write};
 use std::process::Abort;
 use std::test::Fail;
 
@@ -204,7 +204,7 @@ fn check_refusals(rt: &impl Abort, heap: Global, cases: &[Case]) -> Result<(), F
             "{}",
             *name
         );
-        check_block(rt, &block, EMPTY).note(*name)?;
+        check_block(rt, name, &block, EMPTY);
     }
     Ok(())
 }
@@ -220,30 +220,32 @@ fn wire_in_text(n: u16) -> (Place, Place, u16) {
     }
 }
 
-fn check_sizes(rt: &impl Abort, block: &Block, sizes: Sizes) -> Result<(), Fail> {
+fn check_sizes<N: Debug>(rt: &impl Abort, name: &N, block: &Block, sizes: Sizes) {
     let (flops, gates, wires) = sizes;
-    assert_eq!(rt; block.flip_flop_count(), flops as usize);
-    assert_eq!(rt; block.gate_count(), gates as usize);
-    assert_eq!(rt; block.wire_count(), wires as usize);
-    assert_eq!(rt; flop_at(block, flops as usize), None);
-    assert_eq!(rt; gate_at(block, gates as usize), None);
-    assert_eq!(rt; wire_at(block, wires as usize), None);
-    Ok(())
+    assert_eq!(rt; block.flip_flop_count(), flops as usize, "{name:?}");
+    assert_eq!(rt; block.gate_count(), gates as usize, "{name:?}");
+    assert_eq!(rt; block.wire_count(), wires as usize, "{name:?}");
+    assert_eq!(rt; flop_at(block, flops as usize), None, "{name:?}");
+    assert_eq!(rt; gate_at(block, gates as usize), None, "{name:?}");
+    assert_eq!(rt; wire_at(block, wires as usize), None, "{name:?}");
 }
 
 // The first elements of each class, this many, are as the text has them.
-fn check_elements(rt: &impl Abort, block: &Block, sizes: Sizes) -> Result<(), Fail> {
+fn check_elements<N: Debug>(rt: &impl Abort, name: &N, block: &Block, sizes: Sizes) {
     let (flops, gates, wires) = sizes;
     for n in 0..flops {
-        assert_eq!(rt; flop_at(block, n as usize), Some((n, -1)));
+        assert_eq!(rt; flop_at(block, n as usize), Some((n, -1)), "{name:?}");
     }
     for n in 0..gates {
-        assert_eq!(rt; gate_at(block, n as usize), Some((n, u16::MAX)));
+        assert_eq!(rt; gate_at(block, n as usize), Some((n, u16::MAX)), "{name:?}");
     }
     for n in 0..wires {
-        assert_eq!(rt; wire_at(block, n as usize), Some(wire_in_text(n)));
+        assert_eq!(rt;
+            wire_at(block, n as usize),
+            Some(wire_in_text(n)),
+            "{name:?}"
+        );
     }
-    Ok(())
 }
 
 #[test]
@@ -272,8 +274,8 @@ fn fitting(rt: HostRuntime) -> Result<(), Fail> {
             "{}",
             *name
         );
-        check_sizes(&rt, &block, *sizes).note(*name)?;
-        check_elements(&rt, &block, *sizes).note(*name)?;
+        check_sizes(&rt, name, &block, *sizes);
+        check_elements(&rt, name, &block, *sizes);
     }
     Ok(())
 }
@@ -285,8 +287,8 @@ fn wires_between_gates(rt: HostRuntime) -> Result<(), Fail> {
     let text = grown(rt.alloc(), ALL_JOINED, tail)?;
     let mut block = Block::new(rt.alloc());
     assert_eq!(rt; verdict(text.as_str(), rt.alloc(), &mut block)?, ACCEPTED);
-    check_sizes(&rt, &block, FULL)?;
-    check_elements(&rt, &block, ALL_JOINED)?;
+    check_sizes(&rt, &"joined", &block, FULL);
+    check_elements(&rt, &"joined", &block, ALL_JOINED);
     let near = (Place::Gate(255), Place::Gate(256), 1);
     assert_eq!(rt; wire_at(&block, 4094), Some(near));
     let far = (Place::Gate(0), Place::Gate(1023), 2);
@@ -303,12 +305,12 @@ fn changes(rt: HostRuntime) -> Result<(), Fail> {
     assert_eq!(rt; block.change_flip_flop(256, 0, 0), MISSING);
     assert_eq!(rt; block.change_gate(1024, 0, 0), MISSING);
     assert_eq!(rt; block.change_wire(4096, 0), MISSING);
-    check_elements(&rt, &block, FULL)?;
+    check_elements(&rt, &"refused", &block, FULL);
     assert_eq!(rt; block.change_flip_flop(255, 1, 2), Ok(()));
     assert_eq!(rt; block.change_gate(1023, 3, 4), Ok(()));
     assert_eq!(rt; block.change_wire(4095, 5), Ok(()));
-    check_sizes(&rt, &block, FULL)?;
-    check_elements(&rt, &block, (255, 1023, 4095))?;
+    check_sizes(&rt, &"changed", &block, FULL);
+    check_elements(&rt, &"changed", &block, (255, 1023, 4095));
     assert_eq!(rt; flop_at(&block, 255), Some((1, 2)));
     assert_eq!(rt; gate_at(&block, 1023), Some((3, 4)));
     let last = (Place::Gate(1023), Place::FlipFlop(255), 5);

@@ -35,7 +35,7 @@ pub fn check_refusals(rt: &impl Abort, heap: Global, cases: &[Case]) -> Result<(
             "{}",
             *name
         );
-        check_block(rt, &block, EMPTY).note(*name)?;
+        check_block(rt, name, &block, EMPTY);
     }
     Ok(())
 }
