@@ -1,7 +1,7 @@
 -- The bytes that a line holds are those that the reading takes from it.
 use Rattle.std.proofs.Common.{◌≡◌, ℕ, ◌+◌, ◌*◌, ◌/◌, ◌%◌, ◌<◌, List, [], ◌∷◌, ◌++◌, length, Some, None, Option, refl, ap, ◌∙◌, arith}
 use Rattle.std.specs.Option.{option_map}
-use Rattle.std.specs.List.{AllByRecursion as All}
+use Rattle.std.specs.List.{AllByRecursion}
 use Rattle.std.proofs.lemmas.Nat.{div-add-mod', div-mul-add, mod-mul-add, div_below, mod_below}
 use Rattle.std.proofs.lemmas.Bool.Decides.{nat_tests}
 use Rattle.dumps.specs.Spelling.{digit, spelled, line_feed, Holds}
@@ -20,7 +20,7 @@ digit_from_value : (c n : ℕ) → value c ≡ Some n → (digit n ≡ c) × (n 
 digit_from_value c n e = grind (arith, nat_tests)
 
 -- bytes that are spelled are read
-decoded_spelled : (bytes : List ℕ) → All (λ b. b < 256) bytes → decoded (spelled bytes) ≡ Some bytes
+decoded_spelled : (bytes : List ℕ) → AllByRecursion (λ b. b < 256) bytes → decoded (spelled bytes) ≡ Some bytes
 decoded_spelled [] low = refl
 decoded_spelled (b ∷ bytes) low =
     let high_read = value_digit (b / 16) (div_below b 16 16 (omega arith) low.0) in
@@ -40,7 +40,7 @@ spelled_byte : (h l : ℕ) (more : List ℕ) → l < 16 → spelled ((h * 16 + l
 spelled_byte h l more low = rw (div-mul-add h 16 l low, mod-mul-add h 16 l low)
 
 -- digits that are read spell the bytes
-spelled_decoded : (digits bytes : List ℕ) → decoded digits ≡ Some bytes → (digits ≡ spelled bytes) × All (λ b. b < 256) bytes
+spelled_decoded : (digits bytes : List ℕ) → decoded digits ≡ Some bytes → (digits ≡ spelled bytes) × AllByRecursion (λ b. b < 256) bytes
 spelled_decoded [] bytes e = let none : [] ≡ bytes = cc in rw (← none) (refl, tt)
 spelled_decoded (a ∷ []) bytes e = never e
 spelled_decoded (a ∷ (b ∷ digits)) bytes e =
@@ -76,7 +76,7 @@ bind_parts None f y e = never e
 bind_parts (Some x) f y e = (x, refl, e)
 
 -- digits that are read as some bytes spell them
-some_bytes_are : (digits bytes : List ℕ) → some_bytes digits ≡ Some bytes → (0 < length bytes) × (digits ≡ spelled bytes) × All (λ b. b < 256) bytes
+some_bytes_are : (digits bytes : List ℕ) → some_bytes digits ≡ Some bytes → (0 < length bytes) × (digits ≡ spelled bytes) × AllByRecursion (λ b. b < 256) bytes
 some_bytes_are [] bytes e = never e
 some_bytes_are (d ∷ digits) [] e =
     let (is, low) = spelled_decoded (d ∷ digits) [] e in

@@ -1,6 +1,6 @@
 -- Every sound circuit has a dump: its frames, each written in full.
 use Rattle.std.proofs.Common.{◌≡◌, ℕ, ◌+◌, ◌/◌, ◌%◌, ◌<◌, ◌≤◌, Bool, true, ◌&&◌, eqb, ltb, leb, List, [], ◌∷◌, ◌++◌, map, length, refl, arith}
-use Rattle.std.specs.List.{flat_map, AllByRecursion as All}
+use Rattle.std.specs.List.{flat_map, AllByRecursion}
 use Rattle.std.proofs.lemmas.List.{append_assoc}
 use Rattle.std.proofs.ByRecursion.{All-append, All-weaker}
 use Rattle.std.proofs.lemmas.Bool.{ltb-true, leb-true, and_parts, cond_both}
@@ -20,7 +20,7 @@ use Rattle.dumps.proofs.Tests.{sound_domains_all}
 abbrev line_of : Frame → List ℕ
 line_of f = spelled (bytes_of f) ++ (line_feed ∷ [])
 
-text_written : (frames : List Frame) → All Writable frames → Written frames (flat_map line_of frames)
+text_written : (frames : List Frame) → AllByRecursion Writable frames → Written frames (flat_map line_of frames)
 text_written [] all = refl
 text_written (f ∷ frames) all =
     (bytes_of f, flat_map line_of frames, in_full f all.0, append_assoc (spelled (bytes_of f)) (line_feed ∷ []) (flat_map line_of frames), text_written frames all.1)
@@ -28,11 +28,11 @@ text_written (f ∷ frames) all =
 digit_byte : (n : ℕ) → n < 16 → digit n < 256
 digit_byte n small = cond_both (ltb n 10) (48 + n) (87 + n) (λ d. d < 256) (λ e. omega arith) (λ e. omega arith)
 
-spelled_bytes : (bytes : List ℕ) → All (λ b. b < 256) bytes → All (λ b. b < 256) (spelled bytes)
+spelled_bytes : (bytes : List ℕ) → AllByRecursion (λ b. b < 256) bytes → AllByRecursion (λ b. b < 256) (spelled bytes)
 spelled_bytes [] all = tt
 spelled_bytes (b ∷ bytes) all = (digit_byte (b / 16) (omega (arith, all.0)), (digit_byte (b % 16) (omega arith), spelled_bytes bytes all.1))
 
-text_bytes : (frames : List Frame) → All Writable frames → All (λ b. b < 256) (flat_map line_of frames)
+text_bytes : (frames : List Frame) → AllByRecursion Writable frames → AllByRecursion (λ b. b < 256) (flat_map line_of frames)
 text_bytes [] all = tt
 text_bytes (f ∷ frames) all =
     All-append (λ b. b < 256) (line_of f) (flat_map line_of frames)
@@ -41,14 +41,14 @@ text_bytes (f ∷ frames) all =
 
 -- ---- the frames of a sound circuit can be written
 
-below_last : (parts v : ℕ) (skews : List ℕ) → rising v skews ≡ true → last_of v skews < parts → All (λ w. w < parts) (v ∷ skews)
+below_last : (parts v : ℕ) (skews : List ℕ) → rising v skews ≡ true → last_of v skews < parts → AllByRecursion (λ w. w < parts) (v ∷ skews)
 below_last parts v [] rises last = (last, tt)
 below_last parts v (w ∷ skews) rises last =
     let (up, more) = and_parts (ltb v w) (rising w skews) rises in
     let rest = below_last parts w skews more last in
     (omega (arith, ltb-true v w up, rest.0), rest)
 
-skews_below : (parts : ℕ) (skews : List ℕ) → sound_skews parts skews ≡ true → All (λ w. w < parts) skews
+skews_below : (parts : ℕ) (skews : List ℕ) → sound_skews parts skews ≡ true → AllByRecursion (λ w. w < parts) skews
 skews_below parts [] e = tt
 skews_below parts (v ∷ skews) e =
     let (ab, last) = and_parts (eqb v 0 && rising v skews) (ltb (last_of v skews) parts) e in
@@ -62,7 +62,7 @@ domains_writable parts skews d =
     )
 
 -- frames of one kind, from a test that each element passes
-made_writable : {X : Type 0} (make : X → Frame) (test : X → Bool) → ((x : X) → test x ≡ true → Writable (make x)) → (xs : List X) → every test xs ≡ true → All Writable (map make xs)
+made_writable : {X : Type 0} (make : X → Frame) (test : X → Bool) → ((x : X) → test x ≡ true → Writable (make x)) → (xs : List X) → every test xs ≡ true → AllByRecursion Writable (map make xs)
 made_writable make test fits [] e = tt
 made_writable make test fits (x ∷ xs) e =
     let (here, more) = and_parts (test x) (every test xs) e in
@@ -85,7 +85,7 @@ wire_writable flops gates few_flops few_gates w e =
     let (a, b) = and_parts (there flops gates w.start) (there flops gates w.end) are in
     (place_writable flops gates w.start few_flops few_gates a, (place_writable flops gates w.end few_flops few_gates b, ltb-true w.delay delay_end below))
 
-sound_writable : (c : Circuit) → Sound c → All Writable (frames_of c)
+sound_writable : (c : Circuit) → Sound c → AllByRecursion Writable (frames_of c)
 sound_writable c sound =
     let flops : ℕ = length c.flops in
     let gates : ℕ = length c.gates in (

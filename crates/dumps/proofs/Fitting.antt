@@ -1,6 +1,6 @@
 -- The circuit so far keeps its limits.
 use Rattle.std.proofs.Common.{◌≡◌, ℕ, ◌<◌, ◌≤◌, true, ◌&&◌, ltb, leb, List, [], ◌∷◌, ◌++◌, length, refl, arith}
-use Rattle.std.specs.List.{AllByRecursion as All}
+use Rattle.std.specs.List.{AllByRecursion}
 use Rattle.std.proofs.lemmas.Bool.{ltb-true, lt-ltb, and_parts, and_from}
 use Rattle.std.proofs.lemmas.List.{length_push}
 use Rattle.circuit.specs.Circuit.{Wire}
@@ -73,7 +73,7 @@ passed_fits flops gates start end delay k onward below =
     (and_from (there flops gates (place start) && there flops gates (place end)) (forward (place start) (place end)) is_there onward)
     (lt-ltb delay delay_end below)
 
-pub fitting_next : (frames : List Frame) (s : State) (f : Frame) → Made frames s → Fitting s → Writable f → All (λ c. c.passed ≡ true) (checks s f) → Fitting (next s f)
+pub fitting_next : (frames : List Frame) (s : State) (f : Frame) → Made frames s → Fitting s → Writable f → AllByRecursion (λ c. c.passed ≡ true) (checks s f) → Fitting (next s f)
 fitting_next frames s (domains_frame parts skews) m f w p =
     record {
       domains = sound_domains_right parts skews p.1.0;

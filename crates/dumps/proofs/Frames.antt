@@ -1,6 +1,6 @@
 -- The frame that bytes write is the one that the reading takes from them.
 use Rattle.std.proofs.Common.{◌≡◌, ℕ, ◌-◌, ◌*◌, ◌/◌, ◌%◌, ◌<◌, true, cond, eqb, ltb, List, [], ◌∷◌, length, ℤ, pos, negsuc, Some, Option, sym, refl, subst, inl, inr, arith, w16, to_z}
-use Rattle.std.specs.List.{flat_map, AllByRecursion as All}
+use Rattle.std.specs.List.{flat_map, AllByRecursion}
 use Rattle.std.proofs.lemmas.Nat.{div-add-mod', div-mul-add, mod-mul-add, div_below, mod_below}
 use Rattle.std.proofs.lemmas.Bool.{and_parts, and_from, ltb-true, lt-ltb, eqb-true, eq-eqb, cases_Bool, cond-true}
 use Rattle.std.proofs.lemmas.Bool.Decides.{nat_tests}
@@ -28,7 +28,7 @@ field_bytes : {P : Type 0} (n : ℕ) → in_field n → P → in_byte (n / 256) 
 field_bytes n fits rest = (div_below n 256 256 (omega arith) fits, (mod_below n 256 (omega arith), rest))
 
 -- fields in a row are bytes
-joined_bytes : (ns : List ℕ) → All in_field ns → All in_byte (flat_map field ns)
+joined_bytes : (ns : List ℕ) → AllByRecursion in_field ns → AllByRecursion in_byte (flat_map field ns)
 joined_bytes [] fit = tt
 joined_bytes (n ∷ ns) fit = field_bytes n fit.0 (joined_bytes ns fit.1)
 
@@ -46,10 +46,10 @@ length_joined (n ∷ ns) = omega (arith, length_joined ns)
 record Fields (n : ℕ) (bytes : List ℕ) : Type 0 where
   rejoined : flat_map field (numbers bytes) ≡ bytes
   counted : length (numbers bytes) ≡ n
-  fit : All in_field (numbers bytes)
+  fit : AllByRecursion in_field (numbers bytes)
 
 -- twice n bytes are such
-fields : (n : ℕ) (bytes : List ℕ) → All in_byte bytes → length bytes ≡ 2 * n → Fields n bytes
+fields : (n : ℕ) (bytes : List ℕ) → AllByRecursion in_byte bytes → length bytes ≡ 2 * n → Fields n bytes
 fields n [] low e = record { rejoined = refl; counted = omega arith; fit = tt }
 fields n (a ∷ []) low e = absurd (omega arith)
 fields n (a ∷ (b ∷ bytes)) low e =
@@ -82,7 +82,7 @@ hold_in_field (negsuc n) fits = omega arith
 written : {f g : Frame} {bytes : List ℕ} → Writable g → bytes_of g ≡ bytes → Some g ≡ Some f → Writes f bytes
 written {f} {g} {bytes} fits are read = let same : g ≡ f = cc in subst (λ h. Writes h bytes) same (subst (Writes g) are (in_full g fits))
 
-domains_right : (bytes : List ℕ) (f : Frame) → All in_byte bytes → read_domains bytes ≡ Some f → Writes f (1 ∷ bytes)
+domains_right : (bytes : List ℕ) (f : Frame) → AllByRecursion in_byte bytes → read_domains bytes ≡ Some f → Writes f (1 ∷ bytes)
 domains_right [] f low read = never read
 domains_right (a ∷ []) f low read = never read
 domains_right (a ∷ (b ∷ [])) f low read = never read
@@ -95,7 +95,7 @@ domains_right (a ∷ (b ∷ (n ∷ skews))) f low read =
       | inr other ↦ never (rw other at read)
     ]
 
-flop_right : (bytes : List ℕ) (f : Frame) → All in_byte bytes → read_flop bytes ≡ Some f → Writes f (2 ∷ bytes)
+flop_right : (bytes : List ℕ) (f : Frame) → AllByRecursion in_byte bytes → read_flop bytes ≡ Some f → Writes f (2 ∷ bytes)
 flop_right [] f low read = let same : flop_frame plain_flop ≡ f = cc in subst (λ h. Writes h (2 ∷ [])) same short
 flop_right (a ∷ []) f low read = never read
 flop_right (a ∷ (b ∷ [])) f low read = never read
@@ -106,7 +106,7 @@ flop_right (a ∷ (b ∷ (c ∷ (d ∷ [])))) f low read =
     written (and_from _ _ (lt-ltb (number a b) delay_end (omega arith)) fits) (simp (back, high_byte, low_byte)) read
 flop_right (a ∷ (b ∷ (c ∷ (d ∷ (e ∷ more))))) f low read = never read
 
-gate_right : (bytes : List ℕ) (f : Frame) → All in_byte bytes → read_gate bytes ≡ Some f → Writes f (3 ∷ bytes)
+gate_right : (bytes : List ℕ) (f : Frame) → AllByRecursion in_byte bytes → read_gate bytes ≡ Some f → Writes f (3 ∷ bytes)
 gate_right [] f low read = never read
 gate_right (a ∷ []) f low read = never read
 gate_right (a ∷ (b ∷ [])) f low read = never read
@@ -116,7 +116,7 @@ gate_right (a ∷ (b ∷ (c ∷ (d ∷ [])))) f low read =
     written (omega arith, omega arith) (simp (high_byte, low_byte)) read
 gate_right (a ∷ (b ∷ (c ∷ (d ∷ (e ∷ more))))) f low read = never read
 
-wire_right : (bytes : List ℕ) (f : Frame) → All in_byte bytes → read_wire bytes ≡ Some f → Writes f (4 ∷ bytes)
+wire_right : (bytes : List ℕ) (f : Frame) → AllByRecursion in_byte bytes → read_wire bytes ≡ Some f → Writes f (4 ∷ bytes)
 wire_right [] f low read = never read
 wire_right (a ∷ []) f low read = never read
 wire_right (a ∷ (b ∷ [])) f low read = never read
@@ -144,7 +144,7 @@ at_kind k n {bytes} {f} here after read =
     ]
 
 -- what the reading takes from bytes, they write
-pub parsed_right : (bytes : List ℕ) (f : Frame) → All (λ b. b < 256) bytes → parsed bytes ≡ Some f → Writes f bytes
+pub parsed_right : (bytes : List ℕ) (f : Frame) → AllByRecursion (λ b. b < 256) bytes → parsed bytes ≡ Some f → Writes f bytes
 parsed_right [] f low read = never read
 parsed_right (k ∷ bytes) f low read =
     at_kind k 1 (domains_right bytes f low.1)
@@ -178,7 +178,7 @@ parsed_some [] f read = never read
 parsed_some (k ∷ bytes) f read = omega arith
 
 -- the bytes of a frame are below 256
-bytes_below : (f : Frame) → Writable f → All in_byte (bytes_of f)
+bytes_below : (f : Frame) → Writable f → AllByRecursion in_byte (bytes_of f)
 bytes_below (domains_frame parts skews) fits =
     let (parts-fit, (few, skews-fit)) = fits in
     (omega arith, field_bytes parts parts-fit (few, joined_bytes skews skews-fit))
@@ -193,7 +193,7 @@ bytes_below (wire_frame start end delay) fits =
 bytes_below end_frame fits = (omega arith, tt)
 
 -- what writes a frame is one or more bytes
-pub writes_bytes : (f : Frame) (bytes : List ℕ) → Writes f bytes → (0 < length bytes) × All (λ b. b < 256) bytes
+pub writes_bytes : (f : Frame) (bytes : List ℕ) → Writes f bytes → (0 < length bytes) × AllByRecursion (λ b. b < 256) bytes
 writes_bytes f bytes (in_full g fits) = (parsed_some (bytes_of g) g (parsed_bytes g fits), bytes_below g fits)
 writes_bytes f bytes short = (omega arith, (omega arith, tt))
 

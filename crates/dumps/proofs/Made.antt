@@ -1,6 +1,6 @@
 -- The frames read so far are those of the circuit so far.
 use Rattle.std.proofs.Common.{◌≡◌, ℕ, ◌<◌, true, ◌&&◌, List, [], ◌∷◌, ◌++◌, map, length, sym, refl, ap, ◌∙◌, arith}
-use Rattle.std.specs.List.{AllByRecursion as All}
+use Rattle.std.specs.List.{AllByRecursion}
 use Rattle.std.proofs.lemmas.Bool.{and_parts}
 use Rattle.std.proofs.lemmas.List.{append-nil, append_assoc, map_push}
 use Rattle.circuit.specs.Circuit.{Circuit}
@@ -40,7 +40,7 @@ wire_back flops gates start end delay k =
     let (ks, ke) = and_parts (known flops gates start) (known flops gates end) k in
     rw ((known_present flops gates start ks).back, (known_present flops gates end ke).back)
 
-pub made_next : (frames : List Frame) (s : State) (f : Frame) → Made frames s → All (λ c. c.passed ≡ true) (checks s f) → Made (frames ++ (f ∷ [])) (next s f)
+pub made_next : (frames : List Frame) (s : State) (f : Frame) → Made frames s → AllByRecursion (λ c. c.passed ≡ true) (checks s f) → Made (frames ++ (f ∷ [])) (next s f)
 made_next frames s (domains_frame parts skews) m p =
     let o = stood s.reached 1 p.0 in
     record {

@@ -1,16 +1,16 @@
 -- What the checks that a frame has passed say.
 use Rattle.std.proofs.Common.{◌≡◌, ℕ, ◌<◌, ◌≤◌, Bool, true, false, cond, ◌&&◌, eqb, ltb, leb, ◌⊎◌, List, [], ◌∷◌, None, refl, inl, inr, arith}
-use Rattle.std.specs.List.{AllByRecursion as All}
+use Rattle.std.specs.List.{AllByRecursion}
 use Rattle.std.proofs.lemmas.Bool.{eqb-true, eqb-false, ltb-true, leb-true, and_parts}
 use Rattle.dumps.specs.Reading.{may_stand, refuse_unless}
 use Rattle.dumps.proofs.Grounds.{Check, first_failed}
 
-pub all_passed : (checks : List Check) → first_failed checks ≡ None → All (λ c. c.passed ≡ true) checks
+pub all_passed : (checks : List Check) → first_failed checks ≡ None → AllByRecursion (λ c. c.passed ≡ true) checks
 all_passed [] e = tt
 all_passed (c ∷ checks) e = go c.passed refl e (all_passed checks)
   where
     go : (t : Bool) → c.passed ≡ t → refuse_unless t c.ground (first_failed checks) ≡ None
-        → (first_failed checks ≡ None → All (λ k. k.passed ≡ true) checks) → (c.passed ≡ true) × All (λ k. k.passed ≡ true) checks
+        → (first_failed checks ≡ None → AllByRecursion (λ k. k.passed ≡ true) checks) → (c.passed ≡ true) × AllByRecursion (λ k. k.passed ≡ true) checks
     go true p e' more = (p, more e')
     go false p e' more = let z : ◌≡◌ {A = ℕ} 0 1 = cc in absurd (omega arith)
 

@@ -1,6 +1,6 @@
 -- On which grounds a line is at fault, after the frames before it.
 use Rattle.std.specs.Prelude.{◌≡◌, ℕ, ◌<◌, ◌≤◌, Bool, false, List, [], ◌∷◌, length}
-use Rattle.std.specs.List.{AllByRecursion as All}
+use Rattle.std.specs.List.{AllByRecursion}
 use Rattle.circuit.specs.Circuit.{FlipFlop, Gate, Wire}
 use Rattle.circuit.specs.Terminal.{Terminal, gate_class, place, known}
 use Rattle.circuit.specs.Limits.{most_flops, most_gates, most_wires}
@@ -38,7 +38,7 @@ wires_of (end_frame ∷ frames) = wires_of frames
 -- a domain set comes first and only first; kinds never fall; nothing follows the end
 abbrev pub InOrder : List Frame → Frame → Type 0
 InOrder [] f = kind f ≡ 1
-InOrder (first ∷ before) f = (1 < kind f) × All (λ g. (kind g ≤ kind f) × (kind g < 5)) (first ∷ before)
+InOrder (first ∷ before) f = (1 < kind f) × AllByRecursion (λ g. (kind g ≤ kind f) × (kind g < 5)) (first ∷ before)
 
 -- a terminal that names one of the flip-flops or gates so far
 abbrev pub present : List Frame → Terminal → Bool

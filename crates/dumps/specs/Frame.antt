@@ -1,6 +1,6 @@
 -- What frames there are, how each is written as bytes, and how a circuit is written as frames.
 use Rattle.std.specs.Prelude.{◌≡◌, ℕ, ◌-◌, ◌/◌, ◌%◌, ◌<◌, true, List, [], ◌∷◌, ◌++◌, map, length, ℤ, pos, negsuc}
-use Rattle.std.specs.List.{flat_map, AllByRecursion as All}
+use Rattle.std.specs.List.{flat_map, AllByRecursion}
 use Rattle.circuit.specs.Circuit.{FlipFlop, Gate, Wire, Circuit}
 use Rattle.circuit.specs.Terminal.{Terminal, named}
 use Rattle.circuit.specs.Sound.{flop_fits}
@@ -52,7 +52,7 @@ bytes_of end_frame = 5 ∷ []
 
 -- the figures of a frame have their place in its fields
 abbrev pub Writable : Frame → Type 0
-Writable (domains_frame parts skews) = in_field parts × (in_byte (length skews) × All in_field skews)
+Writable (domains_frame parts skews) = in_field parts × (in_byte (length skews) × AllByRecursion in_field skews)
 Writable (flop_frame f) = flop_fits f ≡ true
 Writable (gate_frame g) = in_field g.smaller × in_field g.larger
 Writable (wire_frame start end delay) = (in_byte start.class × in_field start.number) × ((in_byte end.class × in_field end.number) × in_field delay)

@@ -1,6 +1,6 @@
 -- How bytes are spelled, and what the lines of a text are.
 use Rattle.std.specs.Prelude.{◌≡◌, ℕ, ◌+◌, ◌/◌, ◌%◌, ◌<◌, cond, List, [], ◌∷◌, ◌++◌, length, ◌==◌, nat_lt}
-use Rattle.std.specs.List.{AllByRecursion as All}
+use Rattle.std.specs.List.{AllByRecursion}
 
 -- the character of a hexadecimal digit: 0 to 9, then a to f
 abbrev pub digit : ℕ → ℕ
@@ -17,7 +17,7 @@ line_feed = 10
 -- a line holds one or more bytes, spelled, and ends with a line feed
 pub record Holds (line bytes : List ℕ) : Type 0 where
   pub some_byte : 0 < length bytes
-  pub in_range : All (λ b. b < 256) bytes
+  pub in_range : AllByRecursion (λ b. b < 256) bytes
   pub spelt : line ≡ spelled bytes ++ (line_feed ∷ [])
 
 abbrev pub before_lines : ℕ → List (List ℕ) → List (List ℕ)

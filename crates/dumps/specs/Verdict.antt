@@ -1,6 +1,6 @@
 -- The answer that each text has.
 use Rattle.std.specs.Prelude.{◌≡◌, ℕ, ◌+◌, ◌<◌, List, [], ◌∷◌, ◌++◌, length}
-use Rattle.std.specs.List.{AllByRecursion as All}
+use Rattle.std.specs.List.{AllByRecursion}
 use Rattle.circuit.specs.Circuit.{Circuit}
 use Rattle.circuit.specs.Sound.{Sound}
 use Rattle.dumps.specs.declared.ground.Ground.{Ground}
@@ -23,7 +23,7 @@ Clean before (line ∷ more) all = (f : Frame) × Says line f × ((g : Ground) �
 -- the first of the lines that are left is at fault, or none is left and no end has come
 pub data FaultNext (before : List Frame) : List (List ℕ) → Ground → Type 0 where
   in_line : (line : List ℕ) (more : List (List ℕ)) (g : Ground) → Fault before line g → FaultNext before (line ∷ more) g
-  no_end : All (λ f. kind f < 5) before → FaultNext before [] Order
+  no_end : AllByRecursion (λ f. kind f < 5) before → FaultNext before [] Order
 
 -- no earlier line has a fault, this one has this fault, and no smaller number fits it
 pub record Refused (text : List ℕ) (number line : ℕ) : Type 0 where
@@ -49,4 +49,4 @@ OneAnswer = (text : List ℕ) → (v : Verdict) × Judged text v × ((w : Verdic
 
 -- every sound circuit has a dump
 abbrev pub EverySoundCircuitHasADump : Type 0
-EverySoundCircuitHasADump = (c : Circuit) → Sound c → (text : List ℕ) × All (λ b. b < 256) text × Judged text (accepted c)
+EverySoundCircuitHasADump = (c : Circuit) → Sound c → (text : List ℕ) × AllByRecursion (λ b. b < 256) text × Judged text (accepted c)

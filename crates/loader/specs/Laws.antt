@@ -1,6 +1,6 @@
 -- What holds of every load.
 use Rattle.std.specs.Prelude.{◌≡◌, ℕ, ◌<◌, ◌⊎◌, List, ◌≢◌}
-use Rattle.std.specs.List.{AllByRecursion as All}
+use Rattle.std.specs.List.{AllByRecursion}
 use Rattle.circuit.specs.Circuit.{Circuit}
 use Rattle.circuit.specs.Sound.{Sound}
 use Rattle.loader.specs.Load.{LoadAnswer, loaded, no_memory, LoadCall}
@@ -11,4 +11,4 @@ OneLoadAnswer = (text : List ℕ) (a b : LoadAnswer) (c d : Circuit) → LoadCal
 
 -- every sound circuit has a text of bytes that loads to it, unless memory fails
 abbrev pub EverySoundCircuitLoads : Type 0
-EverySoundCircuitLoads = (c : Circuit) → Sound c → (text : List ℕ) × All (λ b. b < 256) text × ((a : LoadAnswer) (d : Circuit) → LoadCall text a d → (a ≡ no_memory) ⊎ ((a ≡ loaded) × (d ≡ c)))
+EverySoundCircuitLoads = (c : Circuit) → Sound c → (text : List ℕ) × AllByRecursion (λ b. b < 256) text × ((a : LoadAnswer) (d : Circuit) → LoadCall text a d → (a ≡ no_memory) ⊎ ((a ≡ loaded) × (d ≡ c)))
