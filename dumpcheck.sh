@@ -5,8 +5,8 @@ set -eu
 root=$(cd "$(dirname "$0")" && pwd)
 dump=$(realpath -- "${1:-$root/examples/ring.dump}")
 [ -r "$dump" ] || { echo "dumpcheck.sh: cannot read $dump" >&2; exit 1; }
-cd "$root"
-mkdir -p target
+mkdir -p "$root/target"
+cd "$root/crates/dumpcheck"
 echo "proving and building dumpcheck" >&2
-rt check dumpcheck >target/dumpcheck.log 2>&1 || { tail -n 20 target/dumpcheck.log >&2; exit 1; }
-exec target/bin/dumpcheck <"$dump"
+rt run </dev/null >../../target/dumpcheck.log 2>&1 || { tail -n 20 ../../target/dumpcheck.log >&2; exit 1; }
+exec out/dumpcheck <"$dump"

@@ -3,7 +3,7 @@
 # Run ./dumpcheck.sh once before it, which builds the program.
 set -eu
 root=$(cd "$(dirname "$0")/.." && pwd)
-program=$root/target/bin/dumpcheck
+program=$root/crates/dumpcheck/out/dumpcheck
 [ -x "$program" ] || { echo "measure-load.sh: run ./dumpcheck.sh first" >&2; exit 1; }
 dump=$(mktemp)
 trap 'rm -f "$dump"' EXIT

@@ -3,9 +3,9 @@
 # chain, each end of which is raised to the last domain, so 1,785 raises and 1,786 scans. Builds the program booksuite first.
 set -eu
 root=$(cd "$(dirname "$0")/.." && pwd)
-cd "$root"
-mkdir -p target
-rt check booksuite >target/booksuite.log 2>&1 || { tail -n 20 target/booksuite.log >&2; exit 1; }
+mkdir -p "$root/target"
+cd "$root/crates/booksuite"
+rt run </dev/null >../../target/booksuite.log 2>&1 || { tail -n 20 ../../target/booksuite.log >&2; exit 1; }
 book=$(mktemp)
 trap 'rm -f "$book"' EXIT
 for checks in 16384 32768 65536; do
@@ -17,6 +17,6 @@ for checks in 16384 32768 65536; do
         print int(checks / 2), 0
     }' >"$book"
     begin=$(date +%s%N)
-    target/bin/booksuite <"$book" >/dev/null
+    out/booksuite <"$book" >/dev/null
     printf '%6d checks: %5d ms\n' "$checks" $((($(date +%s%N) - begin) / 1000000))
 done
