@@ -76,6 +76,7 @@ impl<A: Book, B: Book> Book for Bound<A, B> {
         self.first.domains().min(self.second.domains())
     }
 
+    #[tactic(auto, using(crate::specs::BindingLemmas::bound_count))]
     fn checks(&self) -> usize {
         (self.first.checks() + self.second.checks()).min(MOST_CHECKS)
     }

@@ -1,6 +1,6 @@
 // Why a book is not scheduled or settled.
 ghost use Rattle.std.specs.Prelude.{◌≡◌};
-ghost use Rattle.engine.specs.Answers.{schedule_number_lem, settle_number_lem};
+ghost use Rattle.engine.specs.Answers.{schedule_number, settle_number};
 ghost use Rattle.engine.specs.declared.faults.SettleFault.TheVariants.{Period as Unnamed};
 
 use period::NotAPeriod;
@@ -14,7 +14,7 @@ pub enum ScheduleFault {
 impl ScheduleFault {
     // The number by which callers know the refusal.
     pub fn number(self) -> u8
-        ensures { result ≡ schedule_number_lem self }
+        ensures { result ≡ schedule_number self }
     {
         match self {
             ScheduleFault::Length => 14,
@@ -34,7 +34,7 @@ pub enum SettleFault {
 
 impl SettleFault {
     pub fn number(self) -> u8
-        ensures { result ≡ settle_number_lem self }
+        ensures { result ≡ settle_number self }
     {
         match self {
             SettleFault::Period => 12,

@@ -12,7 +12,7 @@ use period::Period;
 
 // The shortest period of a book, with its lowest assignment in the list. A list of another length than the number of flip-flops stays as it was.
 pub fn schedule<B: Book>(book: &B, domains: &mut [u8]) -> Result<Period, ScheduleFault>
-    ensures { ScheduleCall (meaning book.now) domains.old (schedule_answer result) domains.new }
+    ensures { ScheduleCall (B.meaning book.now) domains.old (schedule_answer result) domains.new }
 {
     let flops = book.flops();
     if domains.len() != flops {
@@ -25,7 +25,7 @@ pub fn schedule<B: Book>(book: &B, domains: &mut [u8]) -> Result<Period, Schedul
 
 // From all zeros the end of a worst check is raised, as long as it can be; the first assignment of the shortest period stays.
 fn raise<B: Book>(book: &B) -> (Period, [u8; MOST_FLOPS])
-    ensures { Raised (meaning book.now) (fraction result.0) result.1 }
+    ensures { Raised (B.meaning book.now) (fraction result.0) result.1 }
 {
     let floor = book.floor();
     let count = book.domains();

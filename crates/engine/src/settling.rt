@@ -29,7 +29,7 @@ pub fn settle<B: Book>(
     denominator: u64,
     domains: &mut [u8],
 ) -> Result<Period, SettleFault>
-    ensures { SettleCall (meaning book.now) (written numerator denominator) domains.old (settle_answer result) domains.new }
+    ensures { SettleCall (B.meaning book.now) (written numerator denominator) domains.old (settle_answer result) domains.new }
 {
     let period = Period::named(numerator, denominator)?;
     if domains.len() != book.flops() {
@@ -53,8 +53,8 @@ pub fn settle<B: Book>(
 
 // One pass: each check above the period raises its end.
 fn walk<B: Book>(book: &B, period: Period, domains: &mut [u8]) -> Pass
-    requires { Settling (meaning book.now) (fraction period) domains.old }
-    ensures { Passed (meaning book.now) (fraction period) domains.old domains.new result }
+    requires { Settling (B.meaning book.now) (fraction period) domains.old }
+    ensures { Passed (B.meaning book.now) (fraction period) domains.old domains.new result }
 {
     let count = book.domains();
     let mut found = Pass::Met;

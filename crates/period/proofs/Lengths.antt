@@ -1,38 +1,13 @@
 -- What the type of a period keeps, and that a period is known by its length.
-use Rattle.std.proofs.Common.{◌≡◌, ap}
-use mathlib.Core.HLevel.{Σ_prop_path}
-use Rattle.fractions.specs.Fraction.{Fraction, AsLong, IsPeriod}
-use Rattle.fractions.proofs.Lowest.{lowest_once}
+use Rattle.std.proofs.Common.{◌≡◌}
+use Rattle.fractions.specs.Fraction.{AsLong, IsPeriod}
 use Rattle.period.specs.declared.period.Period.{Period}
-use Rattle.period.specs.contracts.period.Period.{the_values, the_ghost, the_propositions}
 use Rattle.period.specs.Periods.{fraction}
+use Rattle.period.specs.Lengths.{kept, one_period}
+pub use Rattle.period.specs.Lengths.{same_period}
 
 pub is_period : (p : Period) → IsPeriod (fraction p)
-is_period p = record {
-  within = record { few_units = p.few_units; parted = p.parted; coarse = p.coarse };
-  lowest_terms = p.lowest_terms;
-}
-
-abbrev Parts : Type 0
-Parts = (v : the_values) × the_ghost v
-
-parts : Period → Parts
-parts p = ((p.numerator, (p.denominator, tt)), (p.few_units, (p.parted, (p.coarse, (p.lowest_terms, tt)))))
-
-joined : Parts → Period
-joined (v, g) = record {
-  numerator = v.0;
-  denominator = v.1.0;
-  few_units = g.0;
-  parted = g.1.0;
-  coarse = g.1.1.0;
-  lowest_terms = g.1.1.1.0;
-}
-
--- two periods of one fraction are one period
-pub same_period : (p q : Period) → fraction p ≡ fraction q → p ≡ q
-unfolding parts joined
-same_period p q e = ap joined (Σ_prop_path the_propositions {u = parts p} {v = parts q} (ap (λ (f : Fraction). (f.num, (f.den, tt))) e))
+is_period = kept (λ p. p.lowest_terms)
 
 pub one_per_length : (p q : Period) → AsLong (fraction p) (fraction q) → p ≡ q
-one_per_length p q e = same_period p q (lowest_once (fraction p) (fraction q) (is_period p) (is_period q) e)
+one_per_length = one_period (λ p. p.lowest_terms)

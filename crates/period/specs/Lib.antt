@@ -1,3 +1,5 @@
 pub mod Refusal
 pub mod Periods
+pub mod Lengths
+pub mod Ordered
 pub mod Text

@@ -1,7 +1,8 @@
 -- Which fraction a period is, which two numbers name one, and how two periods compare.
-use Rattle.std.specs.Prelude.{◌≡◌, ℕ, Some, None, Ok, Err, Option, Result}
+use Rattle.std.specs.Prelude.{◌≡◌, ℕ, ◌*◌, Some, None, Ok, Err, Option, Result}
 use Rattle.std.specs.declared.cmp.Ordering.TheVariants.{Less, Equal, Greater}
 use Rattle.std.specs.declared.cmp.Ordering.{Ordering}
+use Rattle.std.specs.Ordering.{nat_cmp}
 use Rattle.fractions.specs.Fraction.{Fraction, Shorter, AsLong, Within}
 use Rattle.period.specs.declared.period.Period.{Period}
 use Rattle.period.specs.declared.faults.NotAPeriod.{NotAPeriod}
@@ -24,6 +25,10 @@ Compared p q None = ⊥
 Compared p q (Some Less) = Shorter p q
 Compared p q (Some Equal) = AsLong p q
 Compared p q (Some Greater) = Shorter q p
+
+-- how two lengths compare, by cross multiplication
+abbrev pub comparison : Fraction → Fraction → Ordering
+comparison p q = nat_cmp (p.num * q.den) (q.num * p.den)
 
 abbrev pub OnePeriodPerLength : Type 0
 OnePeriodPerLength = (p q : Period) → AsLong (fraction p) (fraction q) → p ≡ q

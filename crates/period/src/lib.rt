@@ -9,5 +9,5 @@ mod period;
 mod tests;
 
 pub use faults::NotAPeriod;
-pub use laws::one_period_per_length;
+pub use laws::{one_period_per_length, periods_compare_by_length};
 pub use period::Period;

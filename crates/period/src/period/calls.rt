@@ -9,6 +9,7 @@ use crate::limits::{MOST_DENOMINATOR, MOST_NUMERATOR};
 use crate::period::Period;
 
 impl Period {
+    #[tactic(auto, using(fractions::proofs::Lowest::coprime_one))]
     pub fn zero() -> Period
         ensures { fraction result ≡ whole 0 }
     {
@@ -18,6 +19,7 @@ impl Period {
         }
     }
 
+    #[tactic(auto, using(fractions::proofs::Lowest::coprime_one))]
     pub fn longest() -> Period
         ensures { fraction result ≡ whole most_num }
     {
@@ -28,6 +30,7 @@ impl Period {
     }
 
     // The period of so many time units: each count of 32 bits is within the limits.
+    #[tactic(auto, using(fractions::proofs::Lowest::coprime_one))]
     pub fn whole(units: u32) -> Period
         ensures { fraction result ≡ whole units }
     {

@@ -1,16 +1,16 @@
 // The order of periods, by length.
 ghost use Rattle.std.specs.Prelude.{Some};
-ghost use Rattle.period.specs.Periods.{fraction, Compared};
-ghost use Rattle.std.specs.Cmp.Rules.{comparing};
-ghost use Rattle.std.proofs.Common.{rules, arith};
+ghost use Rattle.period.specs.Periods.{fraction, comparison};
+ghost use Rattle.std.specs.Cmp.{partial_order_from_agreeing_total};
+ghost use Rattle.period.specs.Ordered.{ordered, agreed, level};
 
 use crate::period::Period;
 use std::cmp::Ordering;
 
 impl PartialOrd for Period {
-    ghost compares = { λ p q. Compared (fraction p) (fraction q) };
+    ghost partial_cmp = { λ p q. Some (comparison (fraction p) (fraction q)) };
 
-    ghost laws = { first_of (Prim.search (comparing, rules), Prim.grind (arith, Self.row.coded.inj)) };
+    ghost laws = { partial_order_from_agreeing_total (λ p q. comparison (fraction p) (fraction q)) (ordered (λ p. p.lowest_terms)) agreed (level (λ p. p.lowest_terms)) };
 
     fn partial_cmp(&self, other: &Period) -> Option<Ordering> {
         Some(self.cmp(other))
@@ -18,13 +18,13 @@ impl PartialOrd for Period {
 }
 
 impl Ord for Period {
-    ghost orders = { λ p q o. Compared (fraction p) (fraction q) (Some o) };
+    ghost cmp = { λ p q. comparison (fraction p) (fraction q) };
 
-    ghost total = { first_of (Prim.search (comparing, rules), Prim.grind (arith, Self.row.coded.inj)) };
+    ghost total = { ordered (λ p. p.lowest_terms) };
 
-    ghost matches_partial_cmp = { first_of (Prim.search (comparing, rules), Prim.grind (arith, Self.row.coded.inj)) };
+    ghost matches_partial_cmp = { agreed };
 
-    ghost matches_eq = { first_of (Prim.search (comparing, rules), Prim.grind (arith, Self.row.coded.inj)) };
+    ghost matches_eq = { level (λ p. p.lowest_terms) };
 
     // Exact: a product of 64 and 16 bits fits 128.
     fn cmp(&self, other: &Period) -> Ordering {

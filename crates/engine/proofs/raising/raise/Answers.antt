@@ -21,13 +21,13 @@ loop-need-init g c = (
 
 pub loop-need-smaller : goal.loop-need-smaller
 loop-need-smaller g c =
-    let asked = asks (g.B.Book.meaning c.args.book.now) c.loop-need.current c.loop-need.place c.start-start.ensures c.end-end.ensures c.domain-of.ensures c.domain-of-in-loop-need.ensures in
+    let asked = asks (g.B.Book.meaning c.args.book.now) c.loop-need.current c.loop-need.place c.start-start.ensures c.end-end.ensures c.domain_of.ensures c.domain_of-in-loop-need.ensures in
     let there = answered_within (some_there c.in-Some.need asked c.in-Some.ensures) in
     omega (arith, there)
 
 pub loop-need-preserved : goal.loop-need-preserved
 loop-need-preserved g c =
-    let asked = asks (g.B.Book.meaning c.args.book.now) c.loop-need.current c.loop-need.place c.start-start.ensures c.end-end.ensures c.domain-of.ensures c.domain-of-in-loop-need.ensures in
+    let asked = asks (g.B.Book.meaning c.args.book.now) c.loop-need.current c.loop-need.place c.start-start.ensures c.end-end.ensures c.domain_of.ensures c.domain_of-in-loop-need.ensures in
     let answered = some_there c.in-Some.need asked c.in-Some.ensures in (
       c.loop-need.invariant.0,
       c.loop-need.invariant.1,
@@ -38,29 +38,29 @@ loop-need-preserved g c =
       omega (arith, answered_within answered, (g.met.B.Book.sound c.args.book.now).few_checks),
     )
 
-pub step-up-requires : goal.step-up-requires
-step-up-requires g c = omega (arith, (g.met.B.Book.sound c.args.book.now).few_domains)
+pub step_up-requires : goal.step_up-requires
+step_up-requires g c = omega (arith, (g.met.B.Book.sound c.args.book.now).few_domains)
 
 pub raise-smaller : goal.raise-smaller
 raise-smaller g c =
-    turn_falls c.loop-need.worst (g.met.B.Book.sound c.args.book.now) c.loop-need.invariant.0 c.loop-need.invariant.1 c.if-not-step-up.ensures
+    turn_falls c.loop-need.worst (g.met.B.Book.sound c.args.book.now) c.loop-need.invariant.0 c.loop-need.invariant.1 c.if-not-step_up.ensures
 
 pub raise-preserved : goal.raise-preserved
 raise-preserved g c =
-    let asked = asks (g.B.Book.meaning c.args.book.now) c.loop-need.current c.loop-need.place c.start-start.ensures c.end-end.ensures c.domain-of.ensures c.domain-of-in-loop-need.ensures in
+    let asked = asks (g.B.Book.meaning c.args.book.now) c.loop-need.current c.loop-need.place c.start-start.ensures c.end-end.ensures c.domain_of.ensures c.domain_of-in-loop-need.ensures in
     let met = scan_met c.loop-need.invariant.1 c.loop-need.invariant.2 asked c.in-None.ensures in
     let turned : Turned (g.B.Book.meaning c.args.book.now) c.loop-need.current c.if-better.chosen (fraction c.if-better.shortest) (fraction c.loop-need.period) = elim c.if-better.branch [
       | then-better w ↦ turn_better (g.met.B.Book.sound c.args.book.now) c.loop-need.invariant.1 met (lt_true _ _ _ w.if-better.ensures refl) w.chosen-is w.shortest-is
       | else-better w ↦ turn_keeps c.loop-need.invariant.1 (lt_false _ _ _ w.if-better.ensures refl) w.chosen-is w.shortest-is
     ] in
-    turn_raises (g.met.B.Book.sound c.args.book.now) turned c.loop-need.invariant.2 c.domains-count.ensures c.if-not-step-up.ensures
+    turn_raises (g.met.B.Book.sound c.args.book.now) turned c.loop-need.invariant.2 c.domains-count.ensures c.if-not-step_up.ensures
 
 pub returns : goal.returns
 returns g c =
-    let asked = asks (g.B.Book.meaning c.args.book.now) c.loop-need.current c.loop-need.place c.start-start.ensures c.end-end.ensures c.domain-of.ensures c.domain-of-in-loop-need.ensures in
+    let asked = asks (g.B.Book.meaning c.args.book.now) c.loop-need.current c.loop-need.place c.start-start.ensures c.end-end.ensures c.domain_of.ensures c.domain_of-in-loop-need.ensures in
     let met = scan_met c.loop-need.invariant.1 c.loop-need.invariant.2 asked c.in-None.ensures in
     let turned : Turned (g.B.Book.meaning c.args.book.now) c.loop-need.current c.if-better.chosen (fraction c.if-better.shortest) (fraction c.loop-need.period) = elim c.if-better.branch [
       | then-better w ↦ turn_better (g.met.B.Book.sound c.args.book.now) c.loop-need.invariant.1 met (lt_true _ _ _ w.if-better.ensures refl) w.chosen-is w.shortest-is
       | else-better w ↦ turn_keeps c.loop-need.invariant.1 (lt_false _ _ _ w.if-better.ensures refl) w.chosen-is w.shortest-is
     ] in
-    turn_ends c.loop-need.worst (g.met.B.Book.sound c.args.book.now) turned c.loop-need.invariant.2 c.domains-count.ensures c.if-not-step-up.ensures
+    turn_ends c.loop-need.worst (g.met.B.Book.sound c.args.book.now) turned c.loop-need.invariant.2 c.domains-count.ensures c.if-not-step_up.ensures

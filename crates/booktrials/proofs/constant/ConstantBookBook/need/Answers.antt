@@ -6,8 +6,8 @@ use Rattle.booktrials.proofs.constant.ConstantBookBook.need.Goals as goal
 
 pub returns-then-place-links : goal.returns-then-place-links
 returns-then-place-links c = (
-  c.if-start-domain-self.false,
-  c.if-end-domain-self.false,
+  c.if-start_domain-self.false,
+  c.if-end_domain-self.false,
   link (fraction c.args.self.now.need) c.args.place,
   link_at (fraction c.args.self.now.need) _ _ c.args.place c.links.ensures c.if-place-links.true,
   refl,

@@ -5,8 +5,8 @@ use Rattle.tablebook.specs.Tables.{rows_of}
 use Rattle.tablebook.proofs.Readings.{check_at}
 use Rattle.tablebook.proofs.table.kind.TableBookBook.end.Goals as goal
 
-pub returns-in-err-check : goal.returns-in-err-check
-returns-in-err-check c = c.from-residual.ensures ∙ sym (ap (option_map (λ (x : Check). x.end)) (check_at (map rows_of (vec_items c.args.self.now.tables)) (vec_items c.args.self.now.checks) c.args.place _ c.in-err-check.ensures))
+pub returns-in_err-check : goal.returns-in_err-check
+returns-in_err-check c = c.from_residual.ensures ∙ sym (ap (option_map (λ (x : Check). x.end)) (check_at (map rows_of (vec_items c.args.self.now.tables)) (vec_items c.args.self.now.checks) c.args.place _ c.in_err-check.ensures))
 
 pub returns : goal.returns
-returns c = sym (ap (option_map (λ (x : Check). x.end)) (check_at (map rows_of (vec_items c.args.self.now.tables)) (vec_items c.args.self.now.checks) c.args.place _ c.in-ok-check.ensures))
+returns c = sym (ap (option_map (λ (x : Check). x.end)) (check_at (map rows_of (vec_items c.args.self.now.tables)) (vec_items c.args.self.now.checks) c.args.place _ c.in_ok-check.ensures))
