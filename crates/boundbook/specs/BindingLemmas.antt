@@ -8,20 +8,20 @@ use Rattle.std.proofs.lemmas.Bool.Decides.{leb_tells}
 use Rattle.std.proofs.lemmas.List.{length-append, length-take, take_all}
 use Rattle.fractions.specs.Fraction.{Fraction, NotLonger, Shorter, AsLong, Within}
 use Rattle.fractions.proofs.Order.{not_longer_antisym, as_long_trans, not_longer_left, not_longer_right, shorter_left, shorter_right}
-use Rattle.checks.specs.Limits.{most_flops, most_domains, most_checks_lem}
+use Rattle.checks.specs.Limits.{most_flops, most_domains, most_checks}
 use Rattle.checks.specs.Model.{Check, Model, Stands, SoundCheck, Sound}
 use Rattle.boundbook.specs.Bound.{longer, bound}
 use Rattle.checks.proofs.Nth.{nth_left, nth_right, nth_cut, nth_cut_off}
 
 -- places
-pub side_first : (first second : Model) (place count : ℕ) → count ≡ length first.checks → place < most_checks_lem → place < count → slice_get (bound first second).checks place ≡ slice_get first.checks place
-side_first first second place count e few l = nth_cut most_checks_lem (first.checks ++ second.checks) place few ∙ nth_left first.checks second.checks place (subst (λ n. place < n) e l)
+pub side_first : (first second : Model) (place count : ℕ) → count ≡ length first.checks → place < most_checks → place < count → slice_get (bound first second).checks place ≡ slice_get first.checks place
+side_first first second place count e few l = nth_cut most_checks (first.checks ++ second.checks) place few ∙ nth_left first.checks second.checks place (subst (λ n. place < n) e l)
 
-pub side_second : (first second : Model) (place count : ℕ) → count ≡ length first.checks → place < most_checks_lem → count ≤ place → slice_get (bound first second).checks place ≡ slice_get second.checks (place - count)
-side_second first second place count e few l = nth_cut most_checks_lem (first.checks ++ second.checks) place few ∙ nth_right first.checks second.checks place (subst (λ n. n ≤ place) e l) ∙ ap (λ n. slice_get second.checks (place - n)) (sym e)
+pub side_second : (first second : Model) (place count : ℕ) → count ≡ length first.checks → place < most_checks → count ≤ place → slice_get (bound first second).checks place ≡ slice_get second.checks (place - count)
+side_second first second place count e few l = nth_cut most_checks (first.checks ++ second.checks) place few ∙ nth_right first.checks second.checks place (subst (λ n. n ≤ place) e l) ∙ ap (λ n. slice_get second.checks (place - n)) (sym e)
 
-pub side_beyond : (first second : Model) (place : ℕ) → most_checks_lem ≤ place → slice_get (bound first second).checks place ≡ None
-side_beyond first second place past = nth_cut_off most_checks_lem (first.checks ++ second.checks) place past
+pub side_beyond : (first second : Model) (place : ℕ) → most_checks ≤ place → slice_get (bound first second).checks place ≡ None
+side_beyond first second place past = nth_cut_off most_checks (first.checks ++ second.checks) place past
 
 -- numbers
 max_first : (a b : ℕ) → a ≤ max a b
@@ -87,7 +87,7 @@ bound_each first second s t place c stands =
     (λ l. carried second.flops second.domains _ _ c (max_second first.flops second.flops) (below_second first.domains second.domains) (t.each (place - length first.checks) c (sym (side_second first second place (length first.checks) refl few l) ∙ stands)))
     (cases_lt place (length first.checks)))
     (λ past. absurd (none_some (slice_get (bound first second).checks place) c (side_beyond first second place past) stands))
-    (cases_lt place most_checks_lem)
+    (cases_lt place most_checks)
   where
     none_some : {X : Type 0} (o : Option X) (x : X) → o ≡ None → o ≢ Some x
     none_some o x e f = grind arith
@@ -102,16 +102,16 @@ bound_sound first second s t = record {
   few_flops = max_most first.flops second.flops most_flops s.few_flops t.few_flops;
   some_domain = min_some first.domains second.domains s.some_domain t.some_domain;
   few_domains = min_most first.domains second.domains most_domains s.few_domains;
-  few_checks = take_few most_checks_lem (first.checks ++ second.checks);
+  few_checks = take_few most_checks (first.checks ++ second.checks);
   floor_within = longer_all Within first.floor second.floor s.floor_within t.floor_within;
   each = bound_each first second s t;
 }
 
-pub bound_count : {X : Type 0} (a b : ℕ) (xs ys : List X) → a ≡ length xs → b ≡ length ys → min (a + b) most_checks_lem ≡ length (take most_checks_lem (xs ++ ys))
-bound_count a b xs ys e f = sym (length-take most_checks_lem (xs ++ ys) ∙ ap (min most_checks_lem) (length-append xs ys ∙ ap (λ n. n + length ys) (sym e) ∙ ap (λ n. a + n) (sym f)) ∙ min_comm most_checks_lem (a + b))
+pub bound_count : {X : Type 0} (a b : ℕ) (xs ys : List X) → a ≡ length xs → b ≡ length ys → min (a + b) most_checks ≡ length (take most_checks (xs ++ ys))
+bound_count a b xs ys e f = sym (length-take most_checks (xs ++ ys) ∙ ap (min most_checks) (length-append xs ys ∙ ap (λ n. n + length ys) (sym e) ∙ ap (λ n. a + n) (sym f)) ∙ min_comm most_checks (a + b))
 
 -- all the checks of both, where there are not too many
-pub bound_whole : {X : Type 0} (a b : ℕ) (xs ys : List X) → a ≡ length xs → b ≡ length ys → a + b ≤ most_checks_lem → (length xs + length ys ≤ most_checks_lem) × (take most_checks_lem (xs ++ ys) ≡ xs ++ ys)
+pub bound_whole : {X : Type 0} (a b : ℕ) (xs ys : List X) → a ≡ length xs → b ≡ length ys → a + b ≤ most_checks → (length xs + length ys ≤ most_checks) × (take most_checks (xs ++ ys) ≡ xs ++ ys)
 bound_whole a b xs ys e f l =
-    let few : length xs + length ys ≤ most_checks_lem = subst (λ n. n + length ys ≤ most_checks_lem) e (subst (λ n. a + n ≤ most_checks_lem) f l) in
-    (few, take_all most_checks_lem (xs ++ ys) (subst (λ n. n ≤ most_checks_lem) (sym (length-append xs ys)) few))
+    let few : length xs + length ys ≤ most_checks = subst (λ n. n + length ys ≤ most_checks) e (subst (λ n. a + n ≤ most_checks) f l) in
+    (few, take_all most_checks (xs ++ ys) (subst (λ n. n ≤ most_checks) (sym (length-append xs ys)) few))

@@ -7,5 +7,5 @@ most_flops = 256
 abbrev pub most_domains : ℕ
 most_domains = 8
 
-abbrev pub most_checks_lem : ℕ
-most_checks_lem = 100000
+abbrev pub most_checks : ℕ
+most_checks = 100000

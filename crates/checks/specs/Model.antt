@@ -2,7 +2,7 @@
 use Rattle.std.specs.Prelude.{◌≡◌, ℕ, ◌<◌, ◌≤◌, List, length, Some}
 use Rattle.std.specs.List.{slice_get}
 use Rattle.fractions.specs.Fraction.{Fraction, NotLonger, AsLong, Within}
-use Rattle.checks.specs.Limits.{most_flops, most_domains, most_checks_lem}
+use Rattle.checks.specs.Limits.{most_flops, most_domains, most_checks}
 
 -- a check runs from one flip-flop to another, or to the same one; its need is by the domain of its start and the domain of its end
 pub record Check : Type 0 where
@@ -33,7 +33,7 @@ pub record Sound (book : Model) : Type 0 where
   pub few_flops : book.flops ≤ most_flops
   pub some_domain : 0 < book.domains
   pub few_domains : book.domains ≤ most_domains
-  pub few_checks : length book.checks ≤ most_checks_lem
+  pub few_checks : length book.checks ≤ most_checks
   pub floor_within : Within book.floor
   pub each : (place : ℕ) (c : Check) → Stands book place c → SoundCheck book.flops book.domains c
 

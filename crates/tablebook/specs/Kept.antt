@@ -7,7 +7,7 @@ use Rattle.std.specs.List.{slice_get}
 use Rattle.std.specs.Global.{Vec}
 use Rattle.std.proofs.lemmas.List.{length-map}
 use Rattle.fractions.specs.Fraction.{Fraction, whole, NotLonger, Within}
-use Rattle.checks.specs.Limits.{most_checks_lem}
+use Rattle.checks.specs.Limits.{most_checks}
 use Rattle.checks.specs.Model.{Check, Stands, SoundCheck, Sound}
 use Rattle.tablebook.specs.Sheets.{Entry, Sheet, nowhere, figure, check_of, model_of, blank, most_entries, most_figure, TableFits, EntryFits, Kept}
 use Rattle.tablebook.specs.Tables.{rows_of, entry_of, sheet}
@@ -54,7 +54,7 @@ sound_entry s k e f =
       never_rises = λ m n higher a b d. whole_figures _ _ (law.never_rises m n higher a b d);
     }
 
-few : (n : ℕ) → n ≤ most_entries → n ≤ most_checks_lem
+few : (n : ℕ) → n ≤ most_entries → n ≤ most_checks
 few n l = omega arith
 
 pub fits_there : (s : Sheet) → Kept s → (place : ℕ) (e : Entry) → slice_get s.entries place ≡ Some e → EntryFits s.flops (length s.tables) e
@@ -67,7 +67,7 @@ kept_sound s k =
       few_flops = counts.few_flops;
       some_domain = counts.some_domain;
       few_domains = counts.few_domains;
-      few_checks = subst (λ n. n ≤ most_checks_lem) (sym (length-map s.entries (check_of s.tables))) (few (length s.entries) counts.few_entries);
+      few_checks = subst (λ n. n ≤ most_checks) (sym (length-map s.entries (check_of s.tables))) (few (length s.entries) counts.few_entries);
       floor_within = within_figure s.floor counts.floor_fits;
       each = λ place c stands. let p = entry_stands s place c stands in subst (SoundCheck s.flops s.domains) (sym p.2) (sound_entry s k p.0 (fits_there s k place p.0 p.1));
     }

@@ -1,5 +1,5 @@
 use Rattle.std.proofs.Common.{◌≡◌, ◌-◌, ◌≤◌, length}
-use Rattle.checks.specs.Limits.{most_checks_lem}
+use Rattle.checks.specs.Limits.{most_checks}
 use Rattle.checks.specs.Raises.{room}
 use Rattle.checks.proofs.Raising.{Raising, Scanned}
 use Rattle.period.specs.Periods.{fraction}
@@ -17,7 +17,7 @@ invariant-loop-need g l =
     (l.current ≡ l.initial.current)
     × Raising (g.B.Book.meaning l.book) l.current l.chosen (fraction l.shortest)
     × Scanned (g.B.Book.meaning l.book) l.current l.place (fraction l.period) l.worst
-    × (l.place ≤ most_checks_lem)
+    × (l.place ≤ most_checks)
 
 abbrev pub decreases-loop-need : goal.decreases-loop-need
 decreases-loop-need g l = length (g.B.Book.meaning l.book).checks - l.place
