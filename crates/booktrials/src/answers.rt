@@ -30,17 +30,18 @@ pub fn settle_number(res: Result<Period, SettleFault>) -> Answer {
     }
 }
 
-// Schedules with a list as long as the one that is to come out.
+// Schedules with a list as long as the one that is to come out; what fails is told by the name.
 pub fn check_schedule<B: Book>(
     rt: &impl Abort,
     heap: Global,
+    name: &str,
     book: &B,
     answer: Answer,
     after: &[u8],
 ) -> Result<(), Fail> {
     let mut list = vec![in heap; BEFORE; after.len()]?;
     let found = schedule_number(schedule(book, list.as_mut_slice()));
-    assert_eq!(rt; (found, list.as_slice()), (answer, after));
+    assert_eq!(rt; (found, list.as_slice()), (answer, after), "{name}");
     Ok(())
 }
 
@@ -48,24 +49,30 @@ pub fn check_schedule<B: Book>(
 fn check_settlement<B: Book>(
     rt: &impl Abort,
     heap: Global,
+    name: &str,
     book: &B,
     case: &Settlement,
 ) -> Result<(), Fail> {
     let (numerator, denominator, answer, after) = *case;
     let mut list = vec![in heap; BEFORE; after.len()]?;
     let found = settle_number(settle(book, numerator, denominator, list.as_mut_slice()));
-    assert_eq!(rt; (found, list.as_slice()), (answer, after));
+    assert_eq!(rt;
+        (found, list.as_slice()),
+        (answer, after),
+        "{name}: {numerator}"
+    );
     Ok(())
 }
 
 pub fn check_settlements<B: Book>(
     rt: &impl Abort,
     heap: Global,
+    name: &str,
     book: &B,
     cases: &[Settlement],
 ) -> Result<(), Fail> {
     for case in cases {
-        check_settlement(rt, heap, book, case).note(case.0)?;
+        check_settlement(rt, heap, name, book, case)?;
     }
     Ok(())
 }
@@ -74,11 +81,12 @@ pub fn check_settlements<B: Book>(
 pub fn check_answers<B: Book>(
     rt: &impl Abort,
     heap: Global,
+    name: &str,
     book: &B,
     answer: Answer,
     after: &[u8],
     settlements: &[Settlement],
 ) -> Result<(), Fail> {
-    check_schedule(rt, heap, book, answer, after)?;
-    check_settlements(rt, heap, book, settlements)
+    check_schedule(rt, heap, name, book, answer, after)?;
+    check_settlements(rt, heap, name, book, settlements)
 }

@@ -84,24 +84,25 @@ fn bound_drafts(
 fn check_joined<B: Book>(
     rt: &impl Abort,
     heap: Global,
+    name: &str,
     book: &B,
     readings: &[Reading],
 ) -> Result<(), Fail> {
-    check_counts(rt, book, JOINED)?;
+    check_counts(rt, name, book, JOINED);
     check_readings(rt, book, readings);
-    check_answers(rt, heap, book, Ok((9, 1)), &[0, 1, 1], JOINED_SETTLED)
+    check_answers(rt, heap, name, book, Ok((9, 1)), &[0, 1, 1], JOINED_SETTLED)
 }
 
 #[test]
 fn joined(rt: HostRuntime) -> Result<(), Fail> {
     let book = bound_drafts(rt.alloc(), CHAIN, LOOP)?;
-    check_joined(&rt, rt.alloc(), &book, JOINED_READ)
+    check_joined(&rt, rt.alloc(), "joined", &book, JOINED_READ)
 }
 
 #[test]
 fn turned(rt: HostRuntime) -> Result<(), Fail> {
     let book = bound_drafts(rt.alloc(), LOOP, CHAIN)?;
-    check_joined(&rt, rt.alloc(), &book, TURNED_READ)
+    check_joined(&rt, rt.alloc(), "turned", &book, TURNED_READ)
 }
 
 // All checks go from 0 to 1 and need 4 at 0 1.
@@ -115,7 +116,7 @@ const MOST_READ: &[Reading] = &[
 fn check_most<B: Book>(rt: &impl Abort, heap: Global, book: &B) -> Result<(), Fail> {
     assert_eq!(rt; book.checks(), 100_000);
     check_readings(rt, book, MOST_READ);
-    check_schedule(rt, heap, book, Ok((4, 1)), &[0, 1])
+    check_schedule(rt, heap, "most", book, Ok((4, 1)), &[0, 1])
 }
 
 // Binds a book of 65,536 checks and one of so many.
@@ -145,8 +146,8 @@ fn check_back(
 ) -> Result<(), Fail> {
     let counts = (back.number(), back.first.checks(), back.second.checks());
     assert_eq!(rt; counts, (19, 65_536, 34_465));
-    check_schedule(rt, heap, &back.first, Ok((4, 1)), &[0, 1])?;
-    check_schedule(rt, heap, &back.second, Ok((4, 1)), &[0, 1])
+    check_schedule(rt, heap, "first", &back.first, Ok((4, 1)), &[0, 1])?;
+    check_schedule(rt, heap, "second", &back.second, Ok((4, 1)), &[0, 1])
 }
 
 // 100,001 checks together.
@@ -192,19 +193,13 @@ const WHOLE_SETTLED: &[Both] = &[
     (7, 4_096, Err(12), [9, 9, 9, 9]),
 ];
 
-fn check_both_settled<A: Book, B: Book>(
-    rt: &impl Abort,
-    first: &A,
-    second: &B,
-    case: &Both,
-) -> Result<(), Fail> {
+fn check_both_settled<A: Book, B: Book>(rt: &impl Abort, first: &A, second: &B, case: &Both) {
     let (numerator, denominator, answer, after) = *case;
     let mut one = [BEFORE; 4];
     let mut other = [BEFORE; 4];
     let (here, there) = settle_both(first, second, numerator, denominator, &mut one, &mut other);
     let found = (settle_number(here), settle_number(there), one, other);
-    assert_eq!(rt; found, (answer, answer, after, after));
-    Ok(())
+    assert_eq!(rt; found, (answer, answer, after, after), "{numerator}");
 }
 
 fn check_both_scheduled<A: Book, B: Book>(rt: &impl Abort, first: &A, second: &B) {
@@ -215,17 +210,17 @@ fn check_both_scheduled<A: Book, B: Book>(rt: &impl Abort, first: &A, second: &B
     assert_eq!(rt; found, (Ok((7, 1)), Ok((7, 1)), [0, 2, 2, 2], [0, 2, 2, 2]));
 }
 
-fn check_both<A: Book, B: Book>(rt: &impl Abort, first: &A, second: &B) -> Result<(), Fail> {
+fn check_both<A: Book, B: Book>(rt: &impl Abort, first: &A, second: &B) {
     check_both_scheduled(rt, first, second);
     for case in WHOLE_SETTLED {
-        check_both_settled(rt, first, second, case).note(case.0)?;
+        check_both_settled(rt, first, second, case);
     }
-    Ok(())
 }
 
 fn check_spread(rt: &impl Abort, heap: Global, whole: &TableBook) -> Result<(), Fail> {
     let parts = bound_drafts(heap, ONE_PART, OTHER_PART)?;
-    check_both(rt, whole, &parts)
+    check_both(rt, whole, &parts);
+    Ok(())
 }
 
 #[test]

@@ -309,15 +309,15 @@ const NEW_SETTLED: &[Settlement] = &[
 
 // The checks in both orders get the same.
 fn check_case(rt: &impl Abort, heap: Global, case: &Case, turned: bool) -> Result<(), Fail> {
-    let (_, draft, answer, after, settlements) = *case;
+    let (name, draft, answer, after, settlements) = *case;
     let book = filled(heap, draft, turned)?;
-    check_answers(rt, heap, &book, answer, after, settlements)
+    check_answers(rt, heap, name, &book, answer, after, settlements)
 }
 
 fn check_cases(rt: &impl Abort, heap: Global, cases: &[Case]) -> Result<(), Fail> {
     for case in cases {
-        check_case(rt, heap, case, false).note(case.0)?;
-        check_case(rt, heap, case, true).note(case.0)?;
+        check_case(rt, heap, case, false)?;
+        check_case(rt, heap, case, true)?;
     }
     Ok(())
 }
@@ -340,6 +340,6 @@ fn shapes(rt: HostRuntime) -> Result<(), Fail> {
 #[test]
 fn new_book(rt: HostRuntime) -> Result<(), Fail> {
     let book = TableBook::new(rt.alloc());
-    check_counts(&rt, &book, NEW)?;
-    check_answers(&rt, rt.alloc(), &book, Ok((0, 1)), &[], NEW_SETTLED)
+    check_counts(&rt, "new", &book, NEW);
+    check_answers(&rt, rt.alloc(), "new", &book, Ok((0, 1)), &[], NEW_SETTLED)
 }

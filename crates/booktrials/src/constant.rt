@@ -3,7 +3,7 @@
 // 1. A struct whose ghost fields say its limits: none outside them can be made.
 // 2. What it means, in numbers and lists: `chain` of specs/Chain.antt.
 // 3. An impl of `Book` that names the meaning and answers by it.
-// 4. The law `sound`: the limits and both laws of the meaning. It is answered in proofs/constant/ConstantBookBook/TheImpl.
+// 4. The law `sound` in that impl: the limits and both laws of the meaning, proved by `chain_sound` of specs/Links.antt.
 //
 // The engine and the bound book then take the new kind as they are.
 ghost use Rattle.std.specs.Prelude.{◌≡◌, ◌-◌, ◌<◌, ◌≤◌, MatchOption};

@@ -128,7 +128,7 @@ fn need_of<B: Book>(book: &B, place: usize, start: usize, end: usize) -> Option<
 }
 
 // The counts and the floor of a book are those of a draft.
-pub fn check_counts<B: Book>(rt: &impl Abort, book: &B, draft: Draft) -> Result<(), Fail> {
+pub fn check_counts<B: Book>(rt: &impl Abort, name: &str, book: &B, draft: Draft) {
     let expected = (
         draft.flops,
         draft.domains,
@@ -138,9 +138,9 @@ pub fn check_counts<B: Book>(rt: &impl Abort, book: &B, draft: Draft) -> Result<
     let floor = book.floor().numerator();
     assert_eq!(rt;
         (book.flops(), book.domains(), book.checks(), floor),
-        expected
+        expected,
+        "{name}"
     );
-    Ok(())
 }
 
 // A place, the start and the end of the check there, and its need in two domains.

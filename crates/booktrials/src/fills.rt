@@ -261,32 +261,34 @@ const LAWS: &[Case] = &[
 const HELD: Draft = Draft { floor: 3, ..PAIR };
 
 fn check_fill(rt: &impl Abort, heap: Global, case: &Case) -> Result<(), Fail> {
-    let (_, draft, number) = *case;
+    let (name, draft, number) = *case;
     let mut book = filled(heap, HELD, false)?;
     let found = fill(heap, &mut book, draft, false);
-    check_filled(rt, heap, &book, draft, found, number)
+    check_filled(rt, heap, name, &book, draft, found, number)
 }
 
 // A book that took a sheet has its counts; one that refused it is as it was.
 fn check_filled(
     rt: &impl Abort,
     heap: Global,
+    name: &str,
     book: &TableBook,
     draft: Draft,
     found: Result<u8, Fail>,
     number: u8,
 ) -> Result<(), Fail> {
-    assert_eq!(rt; found?, number);
+    assert_eq!(rt; found?, number, "{name}");
     if number == FILLED {
-        return check_counts(rt, book, draft);
+        check_counts(rt, name, book, draft);
+        return Ok(());
     }
-    check_counts(rt, book, HELD)?;
-    check_schedule(rt, heap, book, Ok((4, 1)), &[0, 1])
+    check_counts(rt, name, book, HELD);
+    check_schedule(rt, heap, name, book, Ok((4, 1)), &[0, 1])
 }
 
 fn check_fills(rt: &impl Abort, heap: Global, cases: &[Case]) -> Result<(), Fail> {
     for case in cases {
-        check_fill(rt, heap, case).note(case.0)?;
+        check_fill(rt, heap, case)?;
     }
     Ok(())
 }
@@ -326,5 +328,5 @@ fn check_most(
     found: Result<u8, Fail>,
 ) -> Result<(), Fail> {
     assert_eq!(rt; (found?, book.checks()), (17, 65_536));
-    check_schedule(rt, heap, book, Ok((4, 1)), &[0, 1])
+    check_schedule(rt, heap, "refused", book, Ok((4, 1)), &[0, 1])
 }

@@ -62,14 +62,22 @@ fn sizes(rt: HostRuntime) {
 fn alone(rt: HostRuntime) -> Result<(), Fail> {
     let book = constant(3, 2)?;
     check_readings(&rt, &book, READ);
-    check_answers(&rt, rt.alloc(), &book, Ok((28, 5)), &[0, 0, 0], CONSTANT)
+    check_answers(
+        &rt,
+        rt.alloc(),
+        "alone",
+        &book,
+        Ok((28, 5)),
+        &[0, 0, 0],
+        CONSTANT,
+    )
 }
 
 // One flip-flop has no next one.
 #[test]
 fn no_check(rt: HostRuntime) -> Result<(), Fail> {
     let book = constant(1, 8)?;
-    check_schedule(&rt, rt.alloc(), &book, Ok((0, 1)), &[0])
+    check_schedule(&rt, rt.alloc(), "no check", &book, Ok((0, 1)), &[0])
 }
 
 // A constant book of three flip-flops and four domains, and a table book of two flip-flops and two domains.
@@ -78,7 +86,15 @@ fn bound(rt: HostRuntime) -> Result<(), Fail> {
     let first = constant(3, 4)?;
     let table = filled(rt.alloc(), PAIR, false)?;
     match bind(first, table) {
-        Ok(book) => check_answers(&rt, rt.alloc(), &book, Ok((28, 5)), &[0, 1, 0], BOUND),
+        Ok(book) => check_answers(
+            &rt,
+            rt.alloc(),
+            "bound",
+            &book,
+            Ok((28, 5)),
+            &[0, 1, 0],
+            BOUND,
+        ),
         Err(_) => Err(Fail::new("too many checks")),
     }
 }
