@@ -2,7 +2,7 @@
 use Rattle.std.specs.Prelude.{◌≡◌, ℕ, ◌⊎◌, List, None, Ok, Err, Result, ◌≢◌}
 use Rattle.circuit.specs.Circuit.{Circuit}
 use Rattle.circuit.specs.Sound.{Covered}
-use Rattle.dumps.specs.declared.ground.Ground.TheVariants.{Order}
+use Rattle.dumps.specs.declared.ground.Ground.TheVariants.{Order, Open}
 use Rattle.dumps.specs.Frame.{Frame}
 use Rattle.dumps.specs.Reading.{State, breach, grown, step}
 use Rattle.netlist.specs.declared.block.Block.{Block}
@@ -30,4 +30,4 @@ LineTaken before line (Err e) after = Stopped e (step before line)
 -- the block, once the end has come; a gate that is open there was refused at the end frame
 abbrev pub Finished : State → Result Block LineFault → Type 0
 Finished s (Ok b) = (s.reached ≡ 5) × (circuit b ≡ s.circuit)
-Finished s (Err e) = ((s.reached ≢ 5) × (e ≡ Refused Order)) ⊎ ((s.reached ≡ 5) × (Covered s.circuit → ⊥))
+Finished s (Err e) = ((s.reached ≢ 5) × (e ≡ Refused Order)) ⊎ ((s.reached ≡ 5) × (Covered s.circuit → ⊥) × (e ≡ Refused Open))
