@@ -20,11 +20,8 @@ fn skew_list(block: &Block, heap: Global) -> Result<String, AllocError>
     ensures { IfOk result (λ s. string_bytes s ≡ skew_words (circuit block.now).skews) }
 {
     let mut all = String::new(heap);
-    let mut domain = 0;
-    while let Some(skew) = block.skew(domain) {
-        let word = format!(in heap; " {skew}")?;
-        all.push_str(word.as_str())?;
-        domain += 1;
+    for skew in block.skews() {
+        write!(all, " {skew}")?;
     }
     Ok(all)
 }
@@ -34,9 +31,9 @@ fn of_block(block: &Block, heap: Global) -> Result<String, AllocError>
 {
     let parts = block.parts();
     let skews = skew_list(block, heap)?;
-    let flops = block.flip_flop_count();
-    let gates = block.gate_count();
-    let wires = block.wire_count();
+    let flops = block.flip_flops().len();
+    let gates = block.gates().len();
+    let wires = block.wires().len();
     format!(in heap;
         "accepted\nQ {parts} skews{skews}\nflip-flops {flops}\ngates {gates}\nwires {wires}\n"
     )

@@ -1,6 +1,6 @@
 // Texts that are accepted, and all that can be read of their blocks.
 use crate::figures::{EMPTY, Figures, check_block};
-use crate::loads::{ACCEPTED, verdict};
+use crate::loads::verdict;
 use netlist::{Block, Place};
 use std::alloc::Global;
 use std::process::Abort;
@@ -150,9 +150,9 @@ const ELEMENTS: &[Case] = &[
 fn check_accepted(rt: &impl Abort, heap: Global, cases: &[Case]) -> Result<(), Fail> {
     for (name, text, figures) in cases {
         let mut block = Block::new(heap);
-        assert_eq!(rt; verdict(WHOLE, heap, &mut block)?, ACCEPTED, "{}", *name);
+        assert_eq!(rt; verdict(WHOLE, heap, &mut block)?, None, "{}", *name);
         for _ in 0..2 {
-            assert_eq!(rt; verdict(text, heap, &mut block)?, ACCEPTED, "{}", *name);
+            assert_eq!(rt; verdict(text, heap, &mut block)?, None, "{}", *name);
             check_block(rt, name, &block, *figures);
         }
     }
@@ -175,13 +175,13 @@ fn turns(rt: HostRuntime) -> Result<(), Fail> {
     let heap = rt.alloc();
     let mut block = Block::new(heap);
     check_block(&rt, &"new", &block, EMPTY);
-    assert_eq!(rt; verdict(WHOLE, heap, &mut block)?, ACCEPTED);
+    assert_eq!(rt; verdict(WHOLE, heap, &mut block)?, None);
     check_block(&rt, &"loaded", &block, WHOLE_FIGURES);
-    assert_eq!(rt; verdict("", heap, &mut block)?, (3, 1));
+    assert_eq!(rt; verdict("", heap, &mut block)?, Some((3, 1)));
     check_block(&rt, &"refused", &block, EMPTY);
-    assert_eq!(rt; verdict("05\n", heap, &mut block)?, (3, 1));
+    assert_eq!(rt; verdict("05\n", heap, &mut block)?, Some((3, 1)));
     check_block(&rt, &"refused again", &block, EMPTY);
-    assert_eq!(rt; verdict(WHOLE, heap, &mut block)?, ACCEPTED);
+    assert_eq!(rt; verdict(WHOLE, heap, &mut block)?, None);
     check_block(&rt, &"loaded again", &block, WHOLE_FIGURES);
     Ok(())
 }

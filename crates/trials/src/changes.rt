@@ -1,6 +1,6 @@
 // Changes of one element: what is answered, and what the block holds after it.
 use crate::figures::{EMPTY, Figures, check_block};
-use crate::loads::{ACCEPTED, verdict};
+use crate::loads::verdict;
 use netlist::{Block, ChangeFault, Place};
 use std::process::Abort;
 use std::test::Fail;
@@ -228,7 +228,7 @@ fn apart(rt: HostRuntime) -> Result<(), Fail> {
     for table in [FLIP_FLOPS, GATES, WIRES] {
         for case in table {
             let mut block = Block::new(rt.alloc());
-            assert_eq!(rt; verdict(TEXT, rt.alloc(), &mut block)?, ACCEPTED);
+            assert_eq!(rt; verdict(TEXT, rt.alloc(), &mut block)?, None);
             check_change(&rt, &mut block, case);
         }
     }
@@ -242,12 +242,12 @@ fn in_turn(rt: HostRuntime) -> Result<(), Fail> {
     for case in IN_EMPTY {
         check_change(&rt, &mut block, case);
     }
-    assert_eq!(rt; verdict(TEXT, rt.alloc(), &mut block)?, ACCEPTED);
+    assert_eq!(rt; verdict(TEXT, rt.alloc(), &mut block)?, None);
     check_block(&rt, &"loaded", &block, BEFORE);
     for case in IN_TURN {
         check_change(&rt, &mut block, case);
     }
-    assert_eq!(rt; verdict(TEXT, rt.alloc(), &mut block)?, ACCEPTED);
+    assert_eq!(rt; verdict(TEXT, rt.alloc(), &mut block)?, None);
     check_block(&rt, &"loaded again", &block, BEFORE);
     Ok(())
 }

@@ -1,6 +1,6 @@
 // Blocks at their limits and one past them.
-use crate::figures::{EMPTY, check_block, flop_at, gate_at, wire_at};
-use crate::loads::{ACCEPTED, verdict};
+use crate::figures::{EMPTY, WireFigures, check_block, flop_figures, gate_figures, wire_figures};
+use crate::loads::verdict;
 use netlist::{Block, ChangeFault, Place};
 use std::alloc::Global;
 use std::fmt::{Debug, Write};
@@ -200,7 +200,7 @@ fn check_refusals(rt: &impl Abort, heap: Global, cases: &[Case]) -> Result<(), F
         let mut block = Block::new(heap);
         assert_eq!(rt;
             verdict(text.as_str(), heap, &mut block)?,
-            (*number, *line),
+            Some((*number, *line)),
             "{}",
             *name
         );
@@ -210,7 +210,7 @@ fn check_refusals(rt: &impl Abort, heap: Global, cases: &[Case]) -> Result<(), F
 }
 
 // The wire of this number, as the text has it.
-fn wire_in_text(n: u16) -> (Place, Place, u16) {
+fn wire_in_text(n: u16) -> WireFigures {
     let gate = Place::Gate(n / 4);
     let flop = Place::FlipFlop(n / 4 % 256);
     if n % 2 == 0 {
@@ -222,30 +222,34 @@ fn wire_in_text(n: u16) -> (Place, Place, u16) {
 
 fn check_sizes<N: Debug>(rt: &impl Abort, name: &N, block: &Block, sizes: Sizes) {
     let (flops, gates, wires) = sizes;
-    assert_eq!(rt; block.flip_flop_count(), flops as usize, "{name:?}");
-    assert_eq!(rt; block.gate_count(), gates as usize, "{name:?}");
-    assert_eq!(rt; block.wire_count(), wires as usize, "{name:?}");
-    assert_eq!(rt; flop_at(block, flops as usize), None, "{name:?}");
-    assert_eq!(rt; gate_at(block, gates as usize), None, "{name:?}");
-    assert_eq!(rt; wire_at(block, wires as usize), None, "{name:?}");
+    assert_eq!(rt; block.flip_flops().len(), flops as usize, "{name:?}");
+    assert_eq!(rt; block.gates().len(), gates as usize, "{name:?}");
+    assert_eq!(rt; block.wires().len(), wires as usize, "{name:?}");
+}
+
+// The first elements of one kind, this many, are as the text has them.
+fn check_first<N: Debug, E, F: PartialEq + Debug + Copy, G: Fn(&E) -> F, T: Fn(u16) -> F>(
+    rt: &impl Abort,
+    name: &N,
+    elements: &[E],
+    count: u16,
+    figures: G,
+    in_text: T,
+)
+    requires { G.IsAlwaysCallable figures × T.IsAlwaysCallable in_text }
+{
+    for n in 0..count {
+        let found = elements.get(n as usize).map(|element| figures(element));
+        assert_eq!(rt; found, Some(in_text(n)), "{name:?}: {n}");
+    }
 }
 
 // The first elements of each class, this many, are as the text has them.
 fn check_elements<N: Debug>(rt: &impl Abort, name: &N, block: &Block, sizes: Sizes) {
     let (flops, gates, wires) = sizes;
-    for n in 0..flops {
-        assert_eq!(rt; flop_at(block, n as usize), Some((n, -1)), "{name:?}");
-    }
-    for n in 0..gates {
-        assert_eq!(rt; gate_at(block, n as usize), Some((n, u16::MAX)), "{name:?}");
-    }
-    for n in 0..wires {
-        assert_eq!(rt;
-            wire_at(block, n as usize),
-            Some(wire_in_text(n)),
-            "{name:?}"
-        );
-    }
+    check_first(rt, name, block.flip_flops(), flops, flop_figures, |n| (n, -1));
+    check_first(rt, name, block.gates(), gates, gate_figures, |n| (n, u16::MAX));
+    check_first(rt, name, block.wires(), wires, wire_figures, wire_in_text);
 }
 
 #[test]
@@ -270,7 +274,7 @@ fn fitting(rt: HostRuntime) -> Result<(), Fail> {
         let text = grown(rt.alloc(), *sizes, "05\n")?;
         assert_eq!(rt;
             verdict(text.as_str(), rt.alloc(), &mut block)?,
-            ACCEPTED,
+            None,
             "{}",
             *name
         );
@@ -286,13 +290,13 @@ fn wires_between_gates(rt: HostRuntime) -> Result<(), Fail> {
     let tail = "040100ff0101000001\n040100000103ff0002\n05\n";
     let text = grown(rt.alloc(), ALL_JOINED, tail)?;
     let mut block = Block::new(rt.alloc());
-    assert_eq!(rt; verdict(text.as_str(), rt.alloc(), &mut block)?, ACCEPTED);
+    assert_eq!(rt; verdict(text.as_str(), rt.alloc(), &mut block)?, None);
     check_sizes(&rt, &"joined", &block, FULL);
     check_elements(&rt, &"joined", &block, ALL_JOINED);
     let near = (Place::Gate(255), Place::Gate(256), 1);
-    assert_eq!(rt; wire_at(&block, 4094), Some(near));
+    assert_eq!(rt; block.wires().get(4094).map(wire_figures), Some(near));
     let far = (Place::Gate(0), Place::Gate(1023), 2);
-    assert_eq!(rt; wire_at(&block, 4095), Some(far));
+    assert_eq!(rt; block.wires().get(4095).map(wire_figures), Some(far));
     Ok(())
 }
 
@@ -301,7 +305,7 @@ fn wires_between_gates(rt: HostRuntime) -> Result<(), Fail> {
 fn changes(rt: HostRuntime) -> Result<(), Fail> {
     let text = grown(rt.alloc(), FULL, "05\n")?;
     let mut block = Block::new(rt.alloc());
-    assert_eq!(rt; verdict(text.as_str(), rt.alloc(), &mut block)?, ACCEPTED);
+    assert_eq!(rt; verdict(text.as_str(), rt.alloc(), &mut block)?, None);
     assert_eq!(rt; block.change_flip_flop(256, 0, 0), MISSING);
     assert_eq!(rt; block.change_gate(1024, 0, 0), MISSING);
     assert_eq!(rt; block.change_wire(4096, 0), MISSING);
@@ -311,9 +315,9 @@ fn changes(rt: HostRuntime) -> Result<(), Fail> {
     assert_eq!(rt; block.change_wire(4095, 5), Ok(()));
     check_sizes(&rt, &"changed", &block, FULL);
     check_elements(&rt, &"changed", &block, (255, 1023, 4095));
-    assert_eq!(rt; flop_at(&block, 255), Some((1, 2)));
-    assert_eq!(rt; gate_at(&block, 1023), Some((3, 4)));
+    assert_eq!(rt; block.flip_flops().get(255).map(flop_figures), Some((1, 2)));
+    assert_eq!(rt; block.gates().get(1023).map(gate_figures), Some((3, 4)));
     let last = (Place::Gate(1023), Place::FlipFlop(255), 5);
-    assert_eq!(rt; wire_at(&block, 4095), Some(last));
+    assert_eq!(rt; block.wires().get(4095).map(wire_figures), Some(last));
     Ok(())
 }

@@ -4,14 +4,14 @@ use netlist::Block;
 use std::alloc::Global;
 use std::test::Fail;
 
-// What stands for a text that is not refused.
-pub const ACCEPTED: (u8, usize) = (0, 0);
+// A number and a line.
+pub type Refusal = (u8, usize);
 
-// The number and the line of a refusal.
-pub fn verdict(text: &str, heap: Global, block: &mut Block) -> Result<(u8, usize), Fail> {
+// The refusal of a text, or none where it is accepted.
+pub fn verdict(text: &str, heap: Global, block: &mut Block) -> Result<Option<Refusal>, Fail> {
     match load(text.as_bytes(), heap, block) {
-        Ok(()) => Ok(ACCEPTED),
-        Err(LoadError::Refused { ground, line }) => Ok((ground.number(), line)),
+        Ok(()) => Ok(None),
+        Err(LoadError::Refused { ground, line }) => Ok(Some((ground.number(), line))),
         Err(LoadError::Memory) => Err(Fail::new("no memory")),
     }
 }

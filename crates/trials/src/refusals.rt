@@ -7,7 +7,7 @@ mod shape;
 mod spelling;
 
 use crate::figures::{EMPTY, check_block};
-use crate::loads::{ACCEPTED, verdict};
+use crate::loads::verdict;
 use netlist::Block;
 use std::alloc::Global;
 use std::process::Abort;
@@ -28,10 +28,10 @@ const FILLED: &str = "\
 pub fn check_refusals(rt: &impl Abort, heap: Global, cases: &[Case]) -> Result<(), Fail> {
     for (name, text, number, line) in cases {
         let mut block = Block::new(heap);
-        assert_eq!(rt; verdict(FILLED, heap, &mut block)?, ACCEPTED, "{}", *name);
+        assert_eq!(rt; verdict(FILLED, heap, &mut block)?, None, "{}", *name);
         assert_eq!(rt;
             verdict(text, heap, &mut block)?,
-            (*number, *line),
+            Some((*number, *line)),
             "{}",
             *name
         );
