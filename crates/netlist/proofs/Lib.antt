@@ -1,6 +1,4 @@
 pub mod Pushed
-pub mod Nth
-pub mod Breaches
 pub mod Lent
 pub mod Answered
 pub mod Marked

@@ -1,42 +1,29 @@
 -- What the types of a draft and a block keep is what makes a circuit sound.
-use Rattle.std.proofs.Common.{◌≡◌, Bool, true, ltb, leb, List, map, length, vec_items, ◌∙◌, arith}
+use Rattle.std.proofs.Common.{◌≡◌, ◌≤◌, Bool, true, ltb, leb, List, map, length, ◌∙◌}
 use Rattle.std.proofs.lemmas.Bool.{and_from, lt-ltb, le-leb}
-use Rattle.circuit.specs.Limits.{delay_end}
-use Rattle.circuit.specs.Sound.{SoundDomains, Sound, every, flop_fits, gate_fits, hold_fits_lem, runs}
+use Rattle.circuit.specs.Limits.{most_flops, most_gates, most_wires, delay_end}
+use Rattle.circuit.specs.Sound.{Sound, every, flop_fits, gate_fits, hold_fits_lem, runs}
 use Rattle.circuit.proofs.Every.{every_map, every_all, every_both}
-use Rattle.netlist.specs.declared.domains.DomainSet.{DomainSet}
 use Rattle.netlist.specs.declared.block.Block.{Block}
 use Rattle.netlist.specs.Figures.{flop_of, gate_of, wire_of}
-use Rattle.netlist.specs.Domains.{skews_of}
 use Rattle.netlist.specs.Circuits.{circuit}
-
-pub domains_sound : (d : DomainSet) → SoundDomains d.parts (skews_of d)
-domains_sound d = record {
-  parted = omega (arith, d.last_below);
-  coarse = d.coarse;
-  some_domain = omega (arith, d.counted, d.some_domain);
-  few_domains = omega (arith, d.counted, d.few_domains);
-  from_zero = d.from_zero;
-  rising = d.rising;
-  last_below = rw d.counted d.last_below;
-}
 
 -- a test that each element passes by its type
 by_type : {X Y : Type 0} (f : X → Y) (test : Y → Bool) → ((x : X) → test (f x) ≡ true) → (xs : List X) → every test (map f xs) ≡ true
 by_type f test w xs = every_map f test xs ∙ every_all (λ x. test (f x)) w xs
 
-pub block_sound : (b : Block) → Sound (circuit b)
-block_sound b =
+pub block_sound : (b : Block) → length (circuit b).flops ≤ most_flops → length (circuit b).gates ≤ most_gates → length (circuit b).wires ≤ most_wires → Sound (circuit b)
+block_sound b few_flops few_gates few_wires =
     let c = circuit b in
     let d = b.draft in
     record {
-      domains = domains_sound d.domains;
-      few_flops = d.few_flops;
-      few_gates = d.few_gates;
-      few_wires = d.few_wires;
-      flops_fit = by_type flop_of flop_fits (λ f. and_from (ltb f.setup delay_end) (hold_fits_lem f.hold) (lt-ltb f.setup delay_end f.setup_fits) f.hold_fits) (vec_items d.flops.items);
-      gates_fit = by_type gate_of gate_fits (λ g. and_from (leb g.smaller g.larger) (ltb g.larger delay_end) (le-leb g.smaller g.larger g.ordered) (lt-ltb g.larger delay_end g.fits)) (vec_items d.gates.items);
-      wires_fit = every_both (runs (length c.flops) (length c.gates)) (λ w. ltb w.delay delay_end) c.wires d.wired (by_type wire_of (λ w. ltb w.delay delay_end) (λ w. lt-ltb w.delay delay_end w.fits) (vec_items d.wires.items));
+      domains = d.domains.sound;
+      few_flops = few_flops;
+      few_gates = few_gates;
+      few_wires = few_wires;
+      flops_fit = by_type flop_of flop_fits (λ f. and_from (ltb f.setup delay_end) (hold_fits_lem f.hold) (lt-ltb f.setup delay_end f.setup_fits) f.hold_fits) d.flops;
+      gates_fit = by_type gate_of gate_fits (λ g. and_from (leb g.smaller g.larger) (ltb g.larger delay_end) (le-leb g.smaller g.larger g.ordered) (lt-ltb g.larger delay_end g.fits)) d.gates;
+      wires_fit = every_both (runs (length c.flops) (length c.gates)) (λ w. ltb w.delay delay_end) c.wires d.wired (by_type wire_of (λ w. ltb w.delay delay_end) (λ w. lt-ltb w.delay delay_end w.fits) d.wires);
       fed = b.fed;
       drained = b.drained;
     }

@@ -1,7 +1,7 @@
 // Why a block cannot take what it is given.
 ghost use Rattle.std.specs.Prelude.{◌≡◌};
 ghost use Rattle.netlist.specs.Changes.{change_number};
-ghost use Rattle.netlist.specs.declared.faults.BlockFault.TheVariants.{Memory};
+ghost use Rattle.netlist.specs.declared.faults.BlockFault.TheVariants.{Absent, Memory};
 
 use std::alloc::AllocError;
 
@@ -32,13 +32,25 @@ impl From<AllocError> for BlockFault {
     }
 }
 
-// Why a change of one element is refused.
+// A class that is neither that of flip-flops nor that of gates.
+#[derive(Clone, Copy)]
+pub struct UnknownClass;
+
+impl From<UnknownClass> for BlockFault {
+    ghost from_gives = { λ _ r. r ≡ Absent };
+
+    fn from(_e: UnknownClass) -> BlockFault {
+        BlockFault::Absent
+    }
+}
+
+// Why a change of one element is refused, with the number by which callers know it.
 #[derive(Clone, Copy, PartialEq, Eq, Debug)]
 pub enum ChangeFault {
     // no element has this number
-    Missing,
+    Missing = 10,
     // a smaller delay above the larger one
-    Delays,
+    Delays = 11,
 }
 
 impl ChangeFault {
@@ -46,9 +58,6 @@ impl ChangeFault {
     pub fn number(self) -> u8
         ensures { result ≡ change_number self }
     {
-        match self {
-            ChangeFault::Missing => 10,
-            ChangeFault::Delays => 11,
-        }
+        self as u8
     }
 }

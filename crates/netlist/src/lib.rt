@@ -13,5 +13,5 @@ mod table;
 pub use block::Block;
 pub use draft::Draft;
 pub use elements::{FlipFlop, Gate, Place, Terminal, Wire};
-pub use faults::{BlockFault, ChangeFault};
+pub use faults::{BlockFault, ChangeFault, UnknownClass};
 pub use laws::every_block_is_sound;

@@ -1,63 +1,72 @@
-// A table of elements, numbered from 0.
-ghost use Rattle.std.specs.Prelude.{◌≡◌, [], ◌∷◌, ◌++◌, length, is_some, IfSome, is_ok, if◌then◌else◌, nat_lt, slice_index_or};
-ghost use Rattle.std.specs.Borrow.{sem, follows_if};
-ghost use Rattle.std.specs.Vec.{with_item};
-ghost use Rattle.std.specs.Option.{ghost_name_of as name_of};
-ghost use Rattle.std.specs.List.{slice_get};
-ghost use Rattle.netlist.specs.contracts.table.Table.{the_row};
+// A table of elements, numbered from 0, that never holds more than its limit.
+ghost use Rattle.std.specs.Prelude.{◌≡◌, ◌<◌, ◌≤◌, ◌↔◌, [], ◌∷◌, ◌++◌, length, is_ok, if◌then◌else◌, IsOk, IsSome, IfErr, IfSome, slice_index_or};
+ghost use Rattle.std.specs.Borrow.{sem};
+ghost use Rattle.netlist.specs.declared.faults.BlockFault.TheVariants.{Surplus};
 
+use crate::faults::BlockFault;
 use std::alloc::{AllocError, Global};
+use std::marker::Model;
 
 #[derive(Drop)]
-pub struct Table<T> {
-    items: Vec<T>,
+pub(crate) struct Table<T, const MOST: usize> {
+    rows: Vec<T>,
 }
 
-impl<T: Copy> Table<T> {
+impl<T, const MOST: usize> Model for Table<T, MOST> {
+    ghost use Rattle.std.specs.Prelude.{◌≤◌, List, vec_len};
+
+    ghost Value = { List T };
+
+    ghost view = { λ t. t.rows.items };
+
+    ghost invariant = { λ t. vec_len t.rows ≤ MOST };
+}
+
+impl<T: Drop, const MOST: usize> Table<T, MOST> {
+    ghost use Rattle.netlist.specs.Table.{LendsRow};
+
     pub(crate) fn new(heap: Global) -> Self
-        ensures { result.items.items ≡ [] }
+        ensures { result ≡ [] }
     {
         Table {
-            items: Vec::new(heap),
-        }
-    }
-
-    pub(crate) fn len(&self) -> usize
-        ensures { result ≡ length self.now.items.items }
-    {
-        self.items.len()
-    }
-
-    // The element of this number, or none beyond the last.
-    pub(crate) fn get(&self, number: usize) -> Option<T>
-        ensures { result ≡ slice_get self.now.items.items number }
-    {
-        if number < self.items.len() {
-            Some(self.items[number])
-        } else {
-            None
+            rows: Vec::new(heap),
         }
     }
 
     pub(crate) fn as_slice(&self) -> &[T]
-        ensures { result.now ≡ self.now.items.items }
+        ensures rows { result.now ≡ self.now }
+        ensures few { length result.now ≤ MOST }
     {
-        self.items.as_slice()
+        self.rows.as_slice()
+    }
+
+    // Whether one element more may come.
+    pub(crate) fn room(&self) -> Result<(), BlockFault>
+        ensures room { IsOk result ↔ (length self.now < MOST) }
+        ensures full { IfErr result (λ e. e ≡ Surplus) }
+    {
+        if self.rows.len() < MOST {
+            Ok(())
+        } else {
+            Err(BlockFault::Surplus)
+        }
     }
 
     // One element more, or no memory for it.
-    pub(crate) fn push(&mut self, item: T) -> Result<(), AllocError>
-        ensures { self.new.items.items ≡ (if is_ok result then self.old.items.items ++ (item ∷ []) else self.old.items.items) }
+    pub(crate) fn push(&mut self, row: T) -> Result<(), AllocError>
+        requires { length self.old < MOST }
+        ensures { self.new ≡ (if is_ok result then self.old ++ row ∷ [] else self.old) }
     {
-        self.items.push(item)?;
+        self.rows.push(row)?;
         Ok(())
     }
 
     // The element of this number, lent for a change.
     pub(crate) fn lend(&mut self, number: usize) -> Option<&mut T>
-        ensures* writes_back { sem 𝓛 (follows_if (the_row T.row) T.row self.entry.ghost_name (name_of result) (λ w. record { items = with_item self.old.items number w }) self.old) }
-        ensures facts { (is_some result ≡ nat_lt number (length self.old.items.items)) × IfSome result (λ x. x.now ≡ slice_index_or self.old.items.items number x.now) }
+        ensures* writes_back { sem 𝓛 (LendsRow T.row MOST.row self.entry number result) }
+        ensures there { IsSome result ↔ (number < length self.old) }
+        ensures row { IfSome result (λ x. x.now ≡ slice_index_or self.old number x.now) }
     {
-        self.items.get_mut(number)
+        self.rows.get_mut(number)
     }
 }

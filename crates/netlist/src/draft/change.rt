@@ -15,22 +15,15 @@ impl Draft {
     ) -> Result<(), ChangeFault>
         ensures { ChangeGateCall (drafted self.old) number smaller larger (change_code result) (drafted self.new) }
     {
-        let Some(gate) = self.gates.lend(number) else {
-            return Err(ChangeFault::Missing);
-        };
-        let Some(changed) = Gate::new(smaller, larger) else {
-            return Err(ChangeFault::Delays);
-        };
-        *gate = changed;
+        let gate = self.gates.lend(number).ok_or(ChangeFault::Missing)?;
+        *gate = Gate::new(smaller, larger).ok_or(ChangeFault::Delays)?;
         Ok(())
     }
 
     pub(crate) fn change_wire(&mut self, number: usize, delay: u16) -> Result<(), ChangeFault>
         ensures { ChangeWireCall (drafted self.old) number delay (change_code result) (drafted self.new) }
     {
-        let Some(wire) = self.wires.lend(number) else {
-            return Err(ChangeFault::Missing);
-        };
+        let wire = self.wires.lend(number).ok_or(ChangeFault::Missing)?;
         wire.set_delay(delay);
         Ok(())
     }
@@ -43,9 +36,7 @@ impl Draft {
     ) -> Result<(), ChangeFault>
         ensures { ChangeFlopCall (drafted self.old) number setup hold (change_code result) (drafted self.new) }
     {
-        let Some(flop) = self.flops.lend(number) else {
-            return Err(ChangeFault::Missing);
-        };
+        let flop = self.flops.lend(number).ok_or(ChangeFault::Missing)?;
         *flop = FlipFlop::new(setup, hold);
         Ok(())
     }

@@ -1,5 +1,5 @@
 // Whether every gate has a wire in and a wire out.
-ghost use Rattle.std.specs.Prelude.{◌≡◌, ℕ, ◌<◌, ◌≤◌, true, false, ◌||◌, length, Decides, slice_index_or};
+ghost use Rattle.std.specs.Prelude.{◌≡◌, ℕ, ◌<◌, false, ◌||◌, ◌↔◌, IsTrue, length, slice_index_or};
 ghost use Rattle.circuit.specs.Sound.{is_gate, Covered};
 ghost use Rattle.netlist.specs.Figures.{place_of};
 ghost use Rattle.netlist.specs.Growth.{CloseCall};
@@ -14,34 +14,19 @@ use crate::limits::MOST_GATES;
 fn mark(marks: &mut [bool], place: Place)
     ensures { (g : ℕ) → g < length marks.old → slice_index_or marks.new g false ≡ (slice_index_or marks.old g false || is_gate g (place_of place)) }
 {
-    match place {
-        Place::FlipFlop(_) => {}
-        Place::Gate(number) => {
-            let gate = number as usize;
-            if gate < marks.len() {
-                marks[gate] = true;
-            }
+    if let Place::Gate(number) = place {
+        let gate = usize::from(number);
+        // By index: `get_mut` of a slice says nothing of what the slice ends as.
+        if gate < marks.len() {
+            marks[gate] = true;
         }
     }
-}
-
-// Whether the first so many are all marked.
-fn all_marked(marks: &[bool], count: usize) -> bool
-    requires { count ≤ length marks.now }
-    ensures { Decides result ((g : ℕ) → g < count → slice_index_or marks.now g false ≡ true) }
-{
-    for g in 0..count {
-        if !marks[g] {
-            return false;
-        }
-    }
-    true
 }
 
 impl Draft {
     // Whether every gate has a wire in and a wire out. One walk over the wires and one over the gates.
     fn is_joined_up(&self) -> bool
-        ensures { Decides result (Covered (drafted self.now)) }
+        ensures { IsTrue result ↔ Covered (drafted self.now) }
     {
         let mut fed = [false; MOST_GATES];
         let mut drained = [false; MOST_GATES];
@@ -50,8 +35,8 @@ impl Draft {
             mark(&mut fed, wire.end());
             mark(&mut drained, wire.start());
         }
-        let gates = self.gate_count();
-        all_marked(&fed, gates) && all_marked(&drained, gates)
+        let gates = self.gates.as_slice().len();
+        !fed[..gates].contains(&false) && !drained[..gates].contains(&false)
     }
 
     // Refuses a draft with an open gate.

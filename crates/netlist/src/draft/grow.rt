@@ -1,7 +1,7 @@
 // How a draft takes its elements, one by one.
-ghost use Rattle.std.specs.Prelude.{◌≡◌};
+ghost use Rattle.std.specs.Prelude.{◌≡◌, length};
 ghost use Rattle.circuit.specs.Circuit.{empty};
-ghost use Rattle.circuit.specs.Sound.{forward};
+ghost use Rattle.circuit.specs.Sound.{forward, there};
 ghost use Rattle.netlist.specs.Figures.{place_of, terminal_of};
 ghost use Rattle.netlist.specs.Growth.{SetDomainsCall, AddFlopCall, AddGateCall, AddWireCall, Resolved, Linked};
 ghost use Rattle.netlist.specs.Drafted.{drafted};
@@ -10,13 +10,8 @@ use crate::domains::DomainSet;
 use crate::draft::Draft;
 use crate::elements::{FlipFlop, Gate, Place, Terminal, Wire};
 use crate::faults::BlockFault;
-use crate::limits::{MOST_FLIP_FLOPS, MOST_GATES, MOST_WIRES};
 use crate::table::Table;
 use std::alloc::Global;
-
-const FLIP_FLOP_CLASS: u8 = 0;
-
-const GATE_CLASS: u8 = 1;
 
 // A wire between gates starts at the smaller number; any other may run as it likes.
 fn runs_forward(start: Place, end: Place) -> bool
@@ -24,8 +19,7 @@ fn runs_forward(start: Place, end: Place) -> bool
 {
     match (start, end) {
         (Place::Gate(m), Place::Gate(n)) => m < n,
-        (Place::Gate(_), Place::FlipFlop(_)) => true,
-        (Place::FlipFlop(_), _) => true,
+        _ => true,
     }
 }
 
@@ -45,19 +39,14 @@ impl Draft {
     pub fn set_domains(&mut self, parts: u16, skews: &[u16]) -> Result<(), BlockFault>
         ensures { SetDomainsCall (drafted self.old) parts skews.now result (drafted self.new) }
     {
-        let Some(domains) = DomainSet::new(parts, skews) else {
-            return Err(BlockFault::Domains);
-        };
-        self.domains = domains;
+        self.domains = DomainSet::new(parts, skews).ok_or(BlockFault::Domains)?;
         Ok(())
     }
 
     pub fn add_flip_flop(&mut self, setup: u16, hold: i16) -> Result<(), BlockFault>
         ensures { AddFlopCall (drafted self.old) setup hold result (drafted self.new) }
     {
-        if self.flip_flop_count() >= MOST_FLIP_FLOPS {
-            return Err(BlockFault::Surplus);
-        }
+        self.flops.room()?;
         self.flops.push(FlipFlop::new(setup, hold))?;
         Ok(())
     }
@@ -65,28 +54,30 @@ impl Draft {
     pub fn add_gate(&mut self, smaller: u16, larger: u16) -> Result<(), BlockFault>
         ensures { AddGateCall (drafted self.old) smaller larger result (drafted self.new) }
     {
-        if self.gate_count() >= MOST_GATES {
-            return Err(BlockFault::Surplus);
-        }
-        let Some(gate) = Gate::new(smaller, larger) else {
-            return Err(BlockFault::Delays);
-        };
+        self.gates.room()?;
+        let gate = Gate::new(smaller, larger).ok_or(BlockFault::Delays)?;
         self.gates.push(gate)?;
         Ok(())
+    }
+
+    fn has(&self, place: Place) -> bool
+        ensures { result ≡ there (length (drafted self.now).flops) (length (drafted self.now).gates) (place_of place) }
+    {
+        match place {
+            Place::FlipFlop(number) => (number as usize) < self.flops.as_slice().len(),
+            Place::Gate(number) => (number as usize) < self.gates.as_slice().len(),
+        }
     }
 
     // The place that a terminal names.
     fn place(&self, terminal: Terminal) -> Result<Place, BlockFault>
         ensures { Resolved (drafted self.now) (terminal_of terminal) result }
     {
-        let number = terminal.number as usize;
-        if terminal.class == FLIP_FLOP_CLASS && number < self.flip_flop_count() {
-            return Ok(Place::FlipFlop(terminal.number));
+        let place = Place::try_from(terminal)?;
+        if !self.has(place) {
+            return Err(BlockFault::Absent);
         }
-        if terminal.class == GATE_CLASS && number < self.gate_count() {
-            return Ok(Place::Gate(terminal.number));
-        }
-        Err(BlockFault::Absent)
+        Ok(place)
     }
 
     // A wire between the places that two terminals name.
@@ -104,9 +95,7 @@ impl Draft {
     pub fn add_wire(&mut self, start: Terminal, end: Terminal, delay: u16) -> Result<(), BlockFault>
         ensures { AddWireCall (drafted self.old) (terminal_of start) (terminal_of end) delay result (drafted self.new) }
     {
-        if self.wire_count() >= MOST_WIRES {
-            return Err(BlockFault::Surplus);
-        }
+        self.wires.room()?;
         let wire = self.link(start, end, delay)?;
         self.wires.push(wire)?;
         Ok(())
