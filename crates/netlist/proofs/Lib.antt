@@ -1,5 +1,5 @@
-pub mod Pushed
-pub mod Lent
+pub mod Wired
+pub mod Delayed
 pub mod Answered
 pub mod Marked
 pub mod Covering

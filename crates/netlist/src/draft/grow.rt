@@ -43,6 +43,7 @@ impl Draft {
         Ok(())
     }
 
+    #[tactic(auto, using(crate::proofs::Wired::wired_push_flop))]
     pub fn add_flip_flop(&mut self, setup: u16, hold: i16) -> Result<(), BlockFault>
         ensures { AddFlopCall (drafted self.old) setup hold result (drafted self.new) }
     {
@@ -51,6 +52,7 @@ impl Draft {
         Ok(())
     }
 
+    #[tactic(auto, using(crate::proofs::Wired::wired_push_gate))]
     pub fn add_gate(&mut self, smaller: u16, larger: u16) -> Result<(), BlockFault>
         ensures { AddGateCall (drafted self.old) smaller larger result (drafted self.new) }
     {

@@ -1,11 +1,10 @@
 use Rattle.std.proofs.Common.{◌≡◌, map, set, refl, ap, ◌∙◌, arith, rules}
 use Rattle.std.proofs.lemmas.Grind.{common_steps}
-use Rattle.std.proofs.lemmas.List.{length-map, map-set}
+use Rattle.std.proofs.lemmas.List.{length-map, map-set, set-get_or}
 use Rattle.circuit.specs.Circuit.{with_gates}
 use Rattle.netlist.specs.Figures.{gate_of}
 use Rattle.netlist.specs.Drafted.{drafted}
 use Rattle.netlist.proofs.Answered.{answers_missing, answers_crossed, answers_made}
-use Rattle.netlist.proofs.Lent.{lent_back}
 use Rattle.netlist.proofs.draft.Draft.change_gate.Goals as goal
 
 pub returns-in_err-gate : goal.returns-in_err-gate
@@ -19,7 +18,7 @@ returns-in_err-gate-2 c =
     let v = c.in_err-gate-2.ensures in
     let found = rw c.in_ok-gate.ensures.ok_part at c.lend.ensures.row in
     answers_crossed (grind (arith, common_steps, length-map)) (λ l. grind (arith, common_steps)) (grind (arith, common_steps))
-    (ap (λ rows. with_gates (drafted d) (map gate_of rows)) (lent_back gate_of d.gates c.args.number c.in_ok-gate.gate.now found))
+    (ap (λ rows. with_gates (drafted d) (map gate_of rows)) (ap (set d.gates c.args.number) found ∙ set-get_or d.gates c.args.number c.in_ok-gate.gate.now))
 
 pub returns : goal.returns
 returns c =

@@ -6,7 +6,8 @@ use Rattle.circuit.specs.Sound.{runs}
 use Rattle.netlist.specs.Figures.{wire_of}
 use Rattle.netlist.specs.Drafted.{drafted}
 use Rattle.netlist.proofs.Answered.{answers_missing, answers_made}
-use Rattle.netlist.proofs.Lent.{lent_every, lent_passes, delayed_set}
+use Rattle.netlist.proofs.Wired.{wired_set}
+use Rattle.netlist.proofs.Delayed.{delayed_set}
 use Rattle.netlist.proofs.draft.Draft.change_wire.Goals as goal
 
 pub returns-in_err-wire : goal.returns-in_err-wire
@@ -18,11 +19,12 @@ pub invariant_of-self-2 : goal.invariant_of-self-2
 invariant_of-self-2 c =
     let d = c.args.self.now in
     let n = c.args.number in
-    let test = runs (length (drafted d).flops) (length (drafted d).gates) in
+    let flops = length (drafted d).flops in
+    let gates = length (drafted d).gates in
     let within : n < length d.wires = c.lend.ensures.there.0 (sym c.in_ok-wire.ensures.variant) in
     let found = rw c.in_ok-wire.ensures.ok_part at c.lend.ensures.row in
     record {
-      wired = lent_every wire_of d.wires n c.set_delay.new.self test d.wired (ap test c.set_delay.ensures ∙ lent_passes wire_of d.wires n c.in_ok-wire.wire.now test within found d.wired);
+      wired = wired_set flops gates n d.wires c.in_ok-wire.wire.now c.set_delay.new.self within found (ap (runs flops gates) c.set_delay.ensures) d.wired;
     }
 
 pub returns : goal.returns
