@@ -1,5 +1,5 @@
 -- The three ends of a change, by the code of the answer and the circuit left.
-use Rattle.std.proofs.Common.{◌≡◌, ℕ, Option, Some, None, sym, ap, ◌∙◌, subst}
+use Rattle.std.proofs.Common.{◌≡◌, ℕ, Option, Some, None, sym, subst}
 use Rattle.circuit.specs.Circuit.{Circuit}
 use Rattle.netlist.specs.Changes.{Change, missing, crossed, made}
 

@@ -1,6 +1,6 @@
 -- Another delay of a wire leaves every gate its wires.
-use Rattle.std.proofs.Common.{◌≡◌, ℕ, zero, suc, ◌<◌, Bool, ◌||◌, List, [], ◌∷◌, length, Option, refl, ap, ◌∙◌}
-use Rattle.circuit.specs.Circuit.{Circuit, Wire, with_wires}
+use Rattle.std.proofs.Common.{◌≡◌, ℕ, zero, suc, Bool, ◌||◌, List, [], ◌∷◌, Option, refl, ap, ◌∙◌}
+use Rattle.circuit.specs.Circuit.{Circuit, Wire}
 use Rattle.circuit.specs.Sound.{any, enters, leaves, Covered}
 use Rattle.netlist.specs.Changes.{missing, crossed, made, delayed, ChangeWireCall}
 

@@ -1,36 +1,41 @@
--- Marks of gates: after one wire more, and what they tell of the wires.
-use Rattle.std.proofs.Common.{◌≡◌, ℕ, ◌+◌, ◌<◌, ◌≤◌, Bool, true, false, not, ◌||◌, ◌↔◌, List, [], ◌∷◌, ◌++◌, map, length, get_or, take, IsTrue, refl, sym, ap, ◌∙◌, arith}
+-- What the marks of gates tell of the wires.
+use Rattle.std.proofs.Common.{◌≡◌, ℕ, ◌<◌, ◌≤◌, Bool, true, false, not, ◌↔◌, List, map, length, get_or, take, IsTrue, refl, sym, ap, ◌∙◌, arith}
 use Rattle.std.specs.List.{IsAnyAnswer}
 use Rattle.std.proofs.lemmas.Bool.{false≢true}
-use Rattle.std.proofs.lemmas.List.{take_more, map_push, get_or-take, length-take}
+use Rattle.std.proofs.lemmas.List.{take_all, get_or-take, length-take, length-map}
 use Rattle.circuit.specs.Circuit.{Wire}
+use Rattle.circuit.specs.Limits.{most_gates}
 use Rattle.circuit.specs.Sound.{any}
-use Rattle.circuit.proofs.Every.{any_push}
+use Rattle.netlist.specs.declared.elements.Gate.{Gate}
+use Rattle.netlist.specs.declared.elements.Wire.{Wire as WireElement}
+use Rattle.netlist.specs.Figures.{gate_of, wire_of}
 use mathlib.Core.Bool.{beq}
-
-pub marked_more : {X Y : Type 0} (f : X → Y) (test : Y → Bool) (xs : List X) (i : ℕ) (x : X) (b : Bool)
-    → i < length xs → x ≡ get_or xs i x → b ≡ any test (map f (take i xs)) → (b || test (f x)) ≡ any test (map f (take (i + 1) xs))
-marked_more f test xs i x b l e h =
-    ap (λ a. a || test (f x)) h
-    ∙ (sym (any_push test (map f (take i xs)) (f x))
-    ∙ (ap (any test) (sym (map_push f (take i xs) x))
-    ∙ ap (λ ys. any test (map f ys)) (ap (λ y. take i xs ++ (y ∷ [])) e ∙ sym (take_more xs i x l))))
 
 set_mark : (b : Bool) → beq b false ≡ false → b ≡ true
 set_mark true e = refl
 set_mark false e = sym e
 
--- no mark of so many gates is missing just where each of them has a wire of the kind that is marked
-pub marks_tell : (test : ℕ → Wire → Bool) (marks : List Bool) (wires : List Wire) (gates n : ℕ) (missing : Bool) → n ≡ gates → n ≤ length marks
-    → ((g : ℕ) → g < length marks → get_or marks g false ≡ any (test g) wires)
-    → IsAnyAnswer (λ y b. beq y false ≡ b) (take n marks) missing
-    → IsTrue (not missing) ↔ ((g : ℕ) → g < gates → any (test g) wires ≡ true)
-marks_tell test marks wires gates n true e l marked h =
-    let within : h.0 < n = omega (arith, h.1, length-take n marks) in (
-      (λ t. absurd (false≢true t)),
-      (λ p. absurd (false≢true (sym (ap (λ y. beq y false) (get_or-take n marks h.0 false within ∙ (marked h.0 (omega arith) ∙ p h.0 (omega arith)))) ∙ h.2 false))),
+-- after all wires, no mark of a gate is missing just where each gate has a wire of the kind that is marked
+pub marks_tell : (test : ℕ → Wire → Bool) (marks : List Bool) (wires : List WireElement) (i : ℕ) (gates rows : List Gate) (missing : Bool)
+    → length marks ≡ most_gates → ((g : ℕ) → g < most_gates → get_or marks g false ≡ any (test g) (map wire_of (take i wires))) → length wires ≤ i
+    → rows ≡ gates → length rows ≤ most_gates → IsAnyAnswer (λ y b. beq y false ≡ b) (take (length rows) marks) missing
+    → IsTrue (not missing) ↔ ((g : ℕ) → g < length (map gate_of gates) → any (test g) (map wire_of wires) ≡ true)
+marks_tell test marks wires i gates rows missing long so_far all e few answer = by missing answer
+  where
+    n : ℕ
+    n = length rows
+
+    counted : n ≡ length (map gate_of gates)
+    counted = ap length e ∙ sym (length-map gates gate_of)
+
+    marked : (g : ℕ) → g < n → get_or (take n marks) g false ≡ any (test g) (map wire_of wires)
+    marked g l = get_or-take n marks g false l ∙ (so_far g (omega arith) ∙ ap (λ ws. any (test g) (map wire_of ws)) (take_all i wires all))
+
+    by : (b : Bool) → IsAnyAnswer (λ y b. beq y false ≡ b) (take n marks) b → IsTrue (not b) ↔ ((g : ℕ) → g < length (map gate_of gates) → any (test g) (map wire_of wires) ≡ true)
+    by true h =
+        let within : h.0 < n = omega (arith, h.1, length-take n marks) in
+        ((λ t. absurd (false≢true t)), (λ p. absurd (false≢true (sym (ap (λ y. beq y false) (marked h.0 within ∙ p h.0 (omega (arith, counted)))) ∙ h.2 false))))
+    by false h = (
+      (λ t g l. sym (marked g (omega (arith, counted))) ∙ set_mark (get_or (take n marks) g false) (h g false (omega arith) (omega (arith, counted, long, few, length-take n marks)))),
+      (λ p. refl),
     )
-marks_tell test marks wires gates n false e l marked h = (
-  (λ t g b. sym (marked g (omega arith)) ∙ (sym (get_or-take n marks g false (omega arith)) ∙ set_mark (get_or (take n marks) g false) (h g false (omega arith) (omega (arith, length-take n marks))))),
-  (λ p. refl),
-)

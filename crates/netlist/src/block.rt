@@ -1,7 +1,7 @@
 // A circuit block. No block that breaks a limit or leaves a gate open can exist.
 ghost use Rattle.std.specs.Prelude.{◌≡◌, ◌≤◌, map, length};
 ghost use Rattle.circuit.specs.Circuit.{empty};
-ghost use Rattle.circuit.specs.Limits.{most_flops, most_gates, most_wires, most_domains};
+ghost use Rattle.circuit.specs.Limits.{most_flops, most_gates, most_wires};
 ghost use Rattle.circuit.specs.Sound.{Fed, Drained};
 ghost use Rattle.netlist.specs.Drafted.{drafted};
 ghost use Rattle.netlist.specs.Figures.{flop_of, gate_of, wire_of};
@@ -55,6 +55,7 @@ impl Block {
 
     pub fn flip_flops(&self) -> &[FlipFlop]
         ensures figures { map flop_of result.now ≡ (circuit self.now).flops }
+        ensures len { length result.now ≡ length (circuit self.now).flops }
         ensures few { length result.now ≤ most_flops }
     {
         self.draft.flops.as_slice()
@@ -62,6 +63,7 @@ impl Block {
 
     pub fn gates(&self) -> &[Gate]
         ensures figures { map gate_of result.now ≡ (circuit self.now).gates }
+        ensures len { length result.now ≡ length (circuit self.now).gates }
         ensures few { length result.now ≤ most_gates }
     {
         self.draft.gates.as_slice()
@@ -69,6 +71,7 @@ impl Block {
 
     pub fn wires(&self) -> &[Wire]
         ensures figures { map wire_of result.now ≡ (circuit self.now).wires }
+        ensures len { length result.now ≡ length (circuit self.now).wires }
         ensures few { length result.now ≤ most_wires }
     {
         self.draft.wires.as_slice()

@@ -62,12 +62,13 @@ impl Draft {
         Ok(())
     }
 
+    // Whether the place is there.
     fn has(&self, place: Place) -> bool
         ensures { result ≡ there (length (drafted self.now).flops) (length (drafted self.now).gates) (place_of place) }
     {
         match place {
-            Place::FlipFlop(number) => (number as usize) < self.flops.as_slice().len(),
-            Place::Gate(number) => (number as usize) < self.gates.as_slice().len(),
+            Place::FlipFlop(number) => usize::from(number) < self.flops.as_slice().len(),
+            Place::Gate(number) => usize::from(number) < self.gates.as_slice().len(),
         }
     }
 

@@ -1,4 +1,4 @@
-use Rattle.std.proofs.Common.{◌≡◌, map, set, refl, ap, ◌∙◌, arith, rules}
+use Rattle.std.proofs.Common.{map, set, refl, ap, ◌∙◌, arith}
 use Rattle.std.proofs.lemmas.Grind.{common_steps}
 use Rattle.std.proofs.lemmas.List.{length-map, map-set, set-get_or}
 use Rattle.circuit.specs.Circuit.{with_gates}

@@ -1,10 +1,8 @@
-use Rattle.std.proofs.Common.{◌≡◌, false, not, map, length, refl, sym, ap, ◌∙◌, arith, rules}
+use Rattle.std.proofs.Common.{false, not, refl, sym, ap, ◌∙◌, rules}
 use Rattle.std.proofs.lemmas.Bool.{false≢true}
-use Rattle.std.proofs.lemmas.List.{get_or-replicate, length-map, take_all}
+use Rattle.std.proofs.lemmas.List.{get_or-replicate}
 use Rattle.circuit.specs.Limits.{most_gates}
-use Rattle.circuit.specs.Sound.{any, enters, leaves}
-use Rattle.netlist.specs.Figures.{gate_of, wire_of}
-use Rattle.netlist.specs.Drafted.{drafted}
+use Rattle.circuit.specs.Sound.{enters, leaves}
 use Rattle.netlist.proofs.Marked.{marks_tell}
 use Rattle.netlist.proofs.draft.Draft.is_joined_up.Goals as goal
 
@@ -14,31 +12,17 @@ loop-wire-init c = (refl, refl, λ g l. get_or-replicate most_gates g false fals
 pub returns-then-not-contains : goal.returns-then-not-contains
 returns-then-not-contains c =
     let d = c.args.self.now in
-    let k = drafted d in
-    let inv = c.loop-wire.invariant in
-    let n = length c.as_slice-gates.result.now in
-    let counted : n ≡ length k.gates = ap length c.as_slice-gates.ensures.rows ∙ sym (length-map d.gates gate_of) in
-    let few = c.as_slice-gates.ensures.few in
-    let whole = take_all c.loop-wire.wire-index c.as_slice-wires.result.now (search rules) ∙ c.as_slice-wires.ensures.rows in
-    let fed =
-    marks_tell enters c.loop-wire.fed k.wires (length k.gates) n c.contains.result counted (omega (arith, inv.0)) (λ g l. inv.2 g (omega (arith, inv.0)) ∙ ap (λ ws. any (enters g) (map wire_of ws)) whole) c.contains.ensures.cases in
-    let drained =
-    marks_tell leaves c.loop-wire.drained k.wires (length k.gates) n c.contains-then-not-contains.result counted (omega (arith, inv.1)) (λ g l. inv.3 g (omega (arith, inv.1)) ∙ ap (λ ws. any (leaves g) (map wire_of ws)) whole) c.contains-then-not-contains.ensures.cases in (
-      (λ t. (fed.0 (ap not c.if-not-contains.true), drained.0 t)),
-      (λ p. drained.1 p.1),
-    )
+    let l = c.loop-wire in
+    let inv = l.invariant in
+    let rows = c.as_slice-gates in
+    let fed = marks_tell enters l.fed d.wires l.wire-index d.gates rows.result.now c.contains.result inv.0 inv.2 (search rules) rows.ensures.rows rows.ensures.few c.contains.ensures.cases in
+    let drained = marks_tell leaves l.drained d.wires l.wire-index d.gates rows.result.now c.contains-then-not-contains.result inv.1 inv.3 (search rules) rows.ensures.rows rows.ensures.few c.contains-then-not-contains.ensures.cases in
+    (λ t. (fed.0 (ap not c.if-not-contains.true), drained.0 t), λ p. drained.1 p.1)
 
 pub returns-else-not-contains : goal.returns-else-not-contains
 returns-else-not-contains c =
     let d = c.args.self.now in
-    let k = drafted d in
-    let inv = c.loop-wire.invariant in
-    let n = length c.as_slice-gates.result.now in
-    let counted : n ≡ length k.gates = ap length c.as_slice-gates.ensures.rows ∙ sym (length-map d.gates gate_of) in
-    let few = c.as_slice-gates.ensures.few in
-    let whole = take_all c.loop-wire.wire-index c.as_slice-wires.result.now (search rules) ∙ c.as_slice-wires.ensures.rows in
-    let fed =
-    marks_tell enters c.loop-wire.fed k.wires (length k.gates) n c.contains.result counted (omega (arith, inv.0)) (λ g l. inv.2 g (omega (arith, inv.0)) ∙ ap (λ ws. any (enters g) (map wire_of ws)) whole) c.contains.ensures.cases in (
-      (λ t. absurd (false≢true (sym (ap not c.if-not-contains.false) ∙ t))),
-      (λ p. fed.1 p.0),
-    )
+    let l = c.loop-wire in
+    let rows = c.as_slice-gates in
+    let fed = marks_tell enters l.fed d.wires l.wire-index d.gates rows.result.now c.contains.result l.invariant.0 l.invariant.2 (search rules) rows.ensures.rows rows.ensures.few c.contains.ensures.cases in
+    (λ t. absurd (false≢true (sym (ap not c.if-not-contains.false) ∙ t)), λ p. fed.1 p.0)

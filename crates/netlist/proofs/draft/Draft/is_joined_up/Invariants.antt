@@ -8,5 +8,5 @@ use Rattle.netlist.proofs.draft.Draft.is_joined_up.Given as goal
 abbrev pub invariant-loop-wire : goal.invariant-loop-wire
 invariant-loop-wire l =
     (length l.fed ≡ most_gates) × (length l.drained ≡ most_gates)
-    × ((g : ℕ) → g < most_gates → get_or l.fed g false ≡ any (enters g) (map wire_of (take l.wire-index l.wires)))
-    × ((g : ℕ) → g < most_gates → get_or l.drained g false ≡ any (leaves g) (map wire_of (take l.wire-index l.wires)))
+    × ((g : ℕ) → g < most_gates → get_or l.fed g false ≡ any (enters g) (map wire_of (take l.wire-index l.self.wires)))
+    × ((g : ℕ) → g < most_gates → get_or l.drained g false ≡ any (leaves g) (map wire_of (take l.wire-index l.self.wires)))
