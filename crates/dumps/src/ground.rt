@@ -1,27 +1,29 @@
-ghost use Rattle.std.specs.Prelude.{◌≡◌};
+ghost use Rattle.std.specs.Prelude.{◌≡◌, Some};
 ghost use Rattle.dumps.specs.Ground.{number_of, reason};
+
+use std::fmt;
 
 // Why a line of a dump is refused.
 #[derive(Clone, Copy, PartialEq, Eq, Debug)]
 pub enum Ground {
     // a foreign character, an odd digit count, an empty line or no line feed
-    Spelling,
+    Spelling = 1,
     // an unknown kind or a wrong length
-    Shape,
+    Shape = 2,
     // a frame out of its order
-    Order,
+    Order = 3,
     // a domain set outside its limits
-    Domains,
+    Domains = 4,
     // one flip-flop, gate or wire too many
-    Surplus,
+    Surplus = 5,
     // a smaller delay above the larger one
-    Delays,
+    Delays = 6,
     // a wire that names a class or number that is not there
-    Absent,
+    Absent = 7,
     // a wire between gates that does not start at the smaller number
-    Backward,
+    Backward = 8,
     // a gate with no wire in or no wire out
-    Open,
+    Open = 9,
 }
 
 impl Ground {
@@ -29,17 +31,7 @@ impl Ground {
     pub fn number(self) -> u8
         ensures { result ≡ number_of self }
     {
-        match self {
-            Ground::Spelling => 1,
-            Ground::Shape => 2,
-            Ground::Order => 3,
-            Ground::Domains => 4,
-            Ground::Surplus => 5,
-            Ground::Delays => 6,
-            Ground::Absent => 7,
-            Ground::Backward => 8,
-            Ground::Open => 9,
-        }
+        self as u8
     }
 
     // What is wrong, in words.
@@ -57,5 +49,13 @@ impl Ground {
             Ground::Backward => "wire between gates does not start at the smaller number",
             Ground::Open => "gate with no wire in or no wire out",
         }
+    }
+}
+
+impl fmt::Display for Ground {
+    ghost output = { λ ground. Some (reason (number_of ground)) };
+
+    fn fmt<W: fmt::Write>(&self, f: &mut fmt::Formatter<W>) -> fmt::Result {
+        f.write_str(self.reason())
     }
 }
