@@ -8,36 +8,27 @@ use Rattle.dumps.specs.Reading.{ended, some_bytes, bind, decoded, held}
 shorter : (b c : ℕ) (more : List ℕ) → length (b ∷ (c ∷ more)) - 1 ≡ suc (length (c ∷ more) - 1)
 shorter b c more = omega arith
 
-ended_fed : (line : List ℕ) → 0 < length line → get_or line (length line - 1) 0 ≡ line_feed → ended line ≡ Some (take (length line - 1) line)
-ended_fed [] l e = absurd (omega arith)
-ended_fed (b ∷ []) l e = cond-true (eqb b line_feed) (Some []) None (eq-eqb b line_feed e)
-ended_fed (b ∷ (c ∷ more)) l e =
-    let last : get_or (c ∷ more) (length (c ∷ more) - 1) 0 ≡ line_feed = sym (ap (λ n. get_or (b ∷ (c ∷ more)) n 0) (shorter b c more)) ∙ e in
-    ap (option_map (λ (line : List ℕ). b ∷ line)) (ended_fed (c ∷ more) (omega arith) last) ∙ sym (ap (λ n. Some (take n (b ∷ (c ∷ more)))) (shorter b c more))
+-- the digits of a line, if it ends with a line feed
+ended_by_last : (line : List ℕ) → ended line ≡ cond (eqb (get_or line (length line - 1) 0) line_feed) (Some (take (length line - 1) line)) None
+ended_by_last [] = refl
+ended_by_last (b ∷ []) = refl
+ended_by_last (b ∷ (c ∷ more)) = rw (shorter b c more, ended_by_last (c ∷ more)) (mapped (eqb (get_or (c ∷ more) (length (c ∷ more) - 1) 0) line_feed))
+  where
+    mapped : (t : _) → option_map (λ (line : List ℕ). b ∷ line) (cond t (Some (take (length (c ∷ more) - 1) (c ∷ more))) None) ≡ cond t (Some (b ∷ take (length (c ∷ more) - 1) (c ∷ more))) None
+    mapped true = refl
+    mapped false = refl
 
-ended_unfed : (line : List ℕ) → 0 < length line → (get_or line (length line - 1) 0 ≡ line_feed → ⊥) → ended line ≡ None
-ended_unfed [] l e = absurd (omega arith)
-ended_unfed (b ∷ []) l e = cond-false (eqb b line_feed) (Some []) None (ne_eqb b line_feed e)
-ended_unfed (b ∷ (c ∷ more)) l e =
-    let last = ap (λ n. get_or (b ∷ (c ∷ more)) n 0) (shorter b c more) in
-    ap (option_map (λ (line : List ℕ). b ∷ line)) (ended_unfed (c ∷ more) (omega arith) (λ f. e (last ∙ f)))
+digits_decoded : (digits : List ℕ) → some_bytes digits ≡ cond (eqb (length digits) 0) None (decoded digits)
+digits_decoded [] = refl
+digits_decoded (d ∷ digits) = sym (cond-false (eqb (length (d ∷ digits)) 0) None (decoded (d ∷ digits)) (ne_eqb (length (d ∷ digits)) 0 (λ e. omega arith)))
 
-digits_decoded : (digits : List ℕ) → 0 < length digits → some_bytes digits ≡ decoded digits
-digits_decoded [] l = absurd (omega arith)
-digits_decoded (d ∷ digits) l = refl
-
-front_long : (line : List ℕ) → 2 ≤ length line → 0 < length (take (length line - 1) line)
-front_long [] l = absurd (omega arith)
-front_long (b ∷ []) l = absurd (omega arith)
-front_long (b ∷ (c ∷ more)) l = rw (shorter b c more) (omega arith)
-
--- digits and a line feed
-pub held_fed : (line : List ℕ) → 2 ≤ length line → get_or line (length line - 1) 0 ≡ line_feed → held line ≡ decoded (take (length line - 1) line)
-held_fed line l e = ap (λ o. bind o some_bytes) (ended_fed line (omega arith) e) ∙ digits_decoded (take (length line - 1) line) (front_long line l)
-
--- no line feed at the end
-pub held_unfed : (line : List ℕ) → 2 ≤ length line → (get_or line (length line - 1) 0 ≡ line_feed → ⊥) → held line ≡ None
-held_unfed line l e = ap (λ o. bind o some_bytes) (ended_unfed line (omega arith) e)
+-- a line holds the bytes that its digits spell, if it has one and ends with a line feed
+pub held_by_last : (line : List ℕ) → held line ≡ cond (eqb (get_or line (length line - 1) 0) line_feed) (cond (eqb (length (take (length line - 1) line)) 0) None (decoded (take (length line - 1) line))) None
+held_by_last line = rw (ended_by_last line) (by (eqb (get_or line (length line - 1) 0) line_feed))
+  where
+    by : (t : _) → bind (cond t (Some (take (length line - 1) line)) None) some_bytes ≡ cond t (cond (eqb (length (take (length line - 1) line)) 0) None (decoded (take (length line - 1) line))) None
+    by true = digits_decoded (take (length line - 1) line)
+    by false = refl
 
 -- no digit
 pub held_short : (line : List ℕ) → length line < 2 → held line ≡ None

@@ -16,7 +16,7 @@ use Rattle.netlist.specs.declared.faults.BlockFault.TheVariants as block
 use Rattle.netlist.specs.Growth.{unless, link_breach, wire_breach}
 use Rattle.loader.specs.declared.faults.LineFault.{LineFault}
 use Rattle.loader.specs.declared.faults.LineFault.TheVariants.{Refused}
-use Rattle.loader.specs.Lines.{of_block_lem, Breached}
+use Rattle.loader.specs.Lines.{of_block, Breached}
 
 -- what a test decides, decided by a fact
 when_not : (t : Bool) (g : Ground) → (t ≡ true → ⊥) → refuse_unless t g None ≡ Some g
@@ -45,10 +45,10 @@ ground_of block.Backward = ground.Backward
 ground_of block.Open = ground.Open
 ground_of block.Memory = ground.Open
 
-grounded : (o : Option BlockFault) (p : Option Ground) → p ≡ option_map ground_of o → (o ≡ Some block.Memory → ⊥) → (f : BlockFault) → o ≡ Some f → Breached (of_block_lem f) p
+grounded : (o : Option BlockFault) (p : Option Ground) → p ≡ option_map ground_of o → (o ≡ Some block.Memory → ⊥) → (f : BlockFault) → o ≡ Some f → Breached (of_block f) p
 grounded o p e never f h = by f h (e ∙ ap (option_map ground_of) h)
   where
-    by : (f : BlockFault) → o ≡ Some f → p ≡ Some (ground_of f) → Breached (of_block_lem f) p
+    by : (f : BlockFault) → o ≡ Some f → p ≡ Some (ground_of f) → Breached (of_block f) p
     by block.Domains h e = e
     by block.Surplus h e = e
     by block.Delays h e = e
@@ -70,11 +70,11 @@ no_memory false f next h k e = h (cc)
 none_memory : None ≡ Some block.Memory → ⊥
 none_memory e = let z : ◌≡◌ {A = ℕ} 0 1 = cc in omega arith
 
-apart : (f : BlockFault) → Refused (ground_of f) ≡ of_block_lem f → f ≡ block.Memory → ⊥
-apart f r e = let z : ◌≡◌ {A = ℕ} 0 1 = let k = ap of_block_lem e in cc in omega arith
+apart : (f : BlockFault) → Refused (ground_of f) ≡ of_block f → f ≡ block.Memory → ⊥
+apart f r e = let z : ◌≡◌ {A = ℕ} 0 1 = let k = ap of_block e in cc in omega arith
 
 -- why a wire was not taken
-pub wire_refused : (c : Circuit) (start end : Terminal) (delay : ℕ) (f : BlockFault) → ((f ≡ block.Memory) × (wire_breach c start end ≡ None)) ⊎ (wire_breach c start end ≡ Some f) → Breached (of_block_lem f) (breach c (wire_frame start end delay))
+pub wire_refused : (c : Circuit) (start end : Terminal) (delay : ℕ) (f : BlockFault) → ((f ≡ block.Memory) × (wire_breach c start end ≡ None)) ⊎ (wire_breach c start end ≡ Some f) → Breached (of_block f) (breach c (wire_frame start end delay))
 wire_refused c start end delay f why = by why
   where
     same : breach c (wire_frame start end delay) ≡ option_map ground_of (wire_breach c start end)
@@ -89,8 +89,8 @@ wire_refused c start end delay f why = by why
         (no_memory (known (length c.flops) (length c.gates) start && known (length c.flops) (length c.gates) end) block.Absent (unless (forward (place start) (place end)) block.Backward None) (apart block.Absent refl)
         (no_memory (forward (place start) (place end)) block.Backward None (apart block.Backward refl) none_memory))
 
-    by : ((f ≡ block.Memory) × (wire_breach c start end ≡ None)) ⊎ (wire_breach c start end ≡ Some f) → Breached (of_block_lem f) (breach c (wire_frame start end delay))
-    by (inl m) = let P : BlockFault → Type 0 = λ e. Breached (of_block_lem e) (breach c (wire_frame start end delay)) in subst P (sym m.0) (same ∙ ap (option_map ground_of) m.1)
+    by : ((f ≡ block.Memory) × (wire_breach c start end ≡ None)) ⊎ (wire_breach c start end ≡ Some f) → Breached (of_block f) (breach c (wire_frame start end delay))
+    by (inl m) = let P : BlockFault → Type 0 = λ e. Breached (of_block e) (breach c (wire_frame start end delay)) in subst P (sym m.0) (same ∙ ap (option_map ground_of) m.1)
     by (inr h) = grounded (wire_breach c start end) (breach c (wire_frame start end delay)) same never f h
 
 -- a fault that is this ground, of a frame that is this one

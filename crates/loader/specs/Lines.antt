@@ -5,25 +5,18 @@ use Rattle.dumps.specs.declared.ground.Ground.TheVariants as ground
 use Rattle.dumps.specs.Reading.{State}
 use Rattle.netlist.specs.declared.faults.BlockFault.{BlockFault}
 use Rattle.netlist.specs.declared.faults.BlockFault.TheVariants as block
-use Rattle.loader.specs.declared.frame.FrameFault.{FrameFault}
-use Rattle.loader.specs.declared.frame.FrameFault.TheVariants as frame
 use Rattle.loader.specs.declared.faults.LineFault.{LineFault}
 use Rattle.loader.specs.declared.faults.LineFault.TheVariants.{Refused, Memory}
 
--- the faults of the frame layer and of the block layer, passed up
-abbrev pub of_frame : FrameFault → LineFault
-of_frame frame.Spelling = Refused ground.Spelling
-of_frame frame.Shape = Refused ground.Shape
-of_frame frame.Memory = Memory
-
-abbrev pub of_block_lem : BlockFault → LineFault
-of_block_lem block.Domains = Refused ground.Domains
-of_block_lem block.Surplus = Refused ground.Surplus
-of_block_lem block.Delays = Refused ground.Delays
-of_block_lem block.Absent = Refused ground.Absent
-of_block_lem block.Backward = Refused ground.Backward
-of_block_lem block.Open = Refused ground.Open
-of_block_lem block.Memory = Memory
+-- a fault of the block layer, passed up
+abbrev pub of_block : BlockFault → LineFault
+of_block block.Domains = Refused ground.Domains
+of_block block.Surplus = Refused ground.Surplus
+of_block block.Delays = Refused ground.Delays
+of_block block.Absent = Refused ground.Absent
+of_block block.Backward = Refused ground.Backward
+of_block block.Open = Refused ground.Open
+of_block block.Memory = Memory
 
 -- the fault is this ground; memory is wanted only where there is none
 abbrev pub Breached : LineFault → Option Ground → Type 0

@@ -1,10 +1,13 @@
 // The fault of one line, before the loader adds which line it is.
 ghost use Rattle.std.specs.Prelude.{◌≡◌};
-ghost use Rattle.loader.specs.Lines.{of_frame, of_block_lem};
+ghost use Rattle.loader.specs.declared.faults.LineFault.TheVariants.{Memory};
+ghost use Rattle.loader.specs.Load.{with_line};
+ghost use Rattle.loader.specs.Lines.{of_block};
 
-use crate::frame::FrameFault;
+use crate::text::LoadError;
 use dumps::Ground;
 use netlist::BlockFault;
+use std::alloc::AllocFailed;
 
 #[derive(Clone, Copy)]
 pub enum LineFault {
@@ -12,20 +15,28 @@ pub enum LineFault {
     Memory,
 }
 
-impl From<FrameFault> for LineFault {
-    ghost from_gives = { λ e r. r ≡ of_frame e };
-
-    fn from(e: FrameFault) -> LineFault {
-        match e {
-            FrameFault::Spelling => LineFault::Refused(Ground::Spelling),
-            FrameFault::Shape => LineFault::Refused(Ground::Shape),
-            FrameFault::Memory => LineFault::Memory,
+impl LineFault {
+    // The fault with the line where it was found.
+    pub fn at(self, line: usize) -> LoadError
+        ensures { result ≡ with_line self line }
+    {
+        match self {
+            LineFault::Refused(ground) => LoadError::Refused { ground, line },
+            LineFault::Memory => LoadError::Memory,
         }
     }
 }
 
+impl<T: Drop> From<AllocFailed<T>> for LineFault {
+    ghost from_gives = { λ _ fault. fault ≡ Memory };
+
+    fn from(_e: AllocFailed<T>) -> LineFault {
+        LineFault::Memory
+    }
+}
+
 impl From<BlockFault> for LineFault {
-    ghost from_gives = { λ e r. r ≡ of_block_lem e };
+    ghost from_gives = { λ e fault. fault ≡ of_block e };
 
     fn from(e: BlockFault) -> LineFault {
         match e {

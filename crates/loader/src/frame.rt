@@ -2,12 +2,14 @@
 ghost use Rattle.std.specs.Prelude.{◌≡◌, Some, MatchResult};
 ghost use Rattle.dumps.specs.Frame.{kind};
 ghost use Rattle.dumps.specs.Reading.{numbers, parsed};
-ghost use Rattle.loader.specs.Frames.{frame_of, kind_number, frame_fault, SaysFrame, Unframed, Unparsed};
-ghost use Rattle.loader.specs.declared.frame.FrameFault.TheVariants.{Memory};
+ghost use Rattle.loader.specs.Frames.{frame_of, kind_number, SaysFrame, Unframed, Unparsed};
+ghost use Rattle.loader.specs.declared.faults.LineFault.TheVariants.{Memory};
 
-use crate::digits::{DigitFault, decode};
+use crate::digits::decode;
+use crate::faults::LineFault;
+use dumps::Ground;
 use netlist::Terminal;
-use std::alloc::{AllocFailed, Global};
+use std::alloc::Global;
 
 const DOMAINS: u8 = 0x01;
 
@@ -69,38 +71,9 @@ impl Frame {
     }
 }
 
-// Why a line says no frame.
-#[derive(Clone, Copy)]
-pub enum FrameFault {
-    // the line holds no bytes
-    Spelling,
-    // an unknown kind or a wrong length
-    Shape,
-    Memory,
-}
-
-impl From<DigitFault> for FrameFault {
-    ghost from_gives = { λ e r. r ≡ frame_fault e };
-
-    fn from(e: DigitFault) -> FrameFault {
-        match e {
-            DigitFault::Spelling => FrameFault::Spelling,
-            DigitFault::Memory => FrameFault::Memory,
-        }
-    }
-}
-
-impl<T: Drop> From<AllocFailed<T>> for FrameFault {
-    ghost from_gives = { λ _ r. r ≡ Memory };
-
-    fn from(_e: AllocFailed<T>) -> FrameFault {
-        FrameFault::Memory
-    }
-}
-
 // The numbers that fields of two bytes hold, the high byte first.
-fn fields(bytes: &[u8], heap: Global) -> Result<Vec<u16>, FrameFault>
-    ensures { MatchResult result (λ v. v.items ≡ numbers bytes.now) (λ e. e ≡ FrameFault.Memory) }
+fn fields(bytes: &[u8], heap: Global) -> Result<Vec<u16>, LineFault>
+    ensures { MatchResult result (λ v. v.items ≡ numbers bytes.now) (λ e. e ≡ Memory) }
 {
     let mut all = Vec::new(heap);
     let mut rest = bytes;
@@ -112,13 +85,13 @@ fn fields(bytes: &[u8], heap: Global) -> Result<Vec<u16>, FrameFault>
 }
 
 // The frame that bytes write: the kind first, and fixed fields after it.
-fn parse(bytes: &[u8], heap: Global) -> Result<Frame, FrameFault>
+fn parse(bytes: &[u8], heap: Global) -> Result<Frame, LineFault>
     ensures { MatchResult result (λ f. parsed bytes.now ≡ Some (frame_of f)) (λ e. Unparsed e (parsed bytes.now)) }
 {
     match bytes {
         [DOMAINS, q1, q0, count, skews @ ..] => {
             if skews.len() != FIELD * *count as usize {
-                return Err(FrameFault::Shape);
+                return Err(LineFault::Refused(Ground::Shape));
             }
             Ok(Frame::Domains {
                 parts: u16::from_be_bytes([*q1, *q0]),
@@ -146,12 +119,12 @@ fn parse(bytes: &[u8], heap: Global) -> Result<Frame, FrameFault>
             delay: u16::from_be_bytes([*w1, *w0]),
         }),
         [END] => Ok(Frame::End),
-        _ => Err(FrameFault::Shape),
+        _ => Err(LineFault::Refused(Ground::Shape)),
     }
 }
 
 // The frame that a line says.
-pub fn read_frame(line: &[u8], heap: Global) -> Result<Frame, FrameFault>
+pub fn read_frame(line: &[u8], heap: Global) -> Result<Frame, LineFault>
     ensures { MatchResult result (λ f. SaysFrame line.now (frame_of f)) (λ e. Unframed e line.now) }
 {
     let bytes = decode(line, heap)?;

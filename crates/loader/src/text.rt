@@ -2,11 +2,10 @@
 ghost use Rattle.std.specs.Prelude.{◌≡◌, ◌<◌, length};
 ghost use Rattle.dumps.specs.Reading.{judge};
 ghost use Rattle.netlist.specs.Circuits.{circuit};
-ghost use Rattle.loader.specs.Load.{with_line, error_number, error_line, load_answer, LoadCall, TextRead, FirstLine};
+ghost use Rattle.loader.specs.Load.{error_number, error_line, load_answer, LoadCall, TextRead, FirstLine};
 
 use crate::assembly::Assembly;
 use crate::digits::LINE_FEED;
-use crate::faults::LineFault;
 use dumps::Ground;
 use netlist::Block;
 use std::alloc::Global;
@@ -36,18 +35,6 @@ impl LoadError {
         match self {
             LoadError::Refused { line, .. } => Some(line),
             LoadError::Memory => None,
-        }
-    }
-}
-
-impl LineFault {
-    // The fault with the line where it was found.
-    fn at(self, line: usize) -> LoadError
-        ensures { result ≡ with_line self line }
-    {
-        match self {
-            LineFault::Refused(ground) => LoadError::Refused { ground, line },
-            LineFault::Memory => LoadError::Memory,
         }
     }
 }

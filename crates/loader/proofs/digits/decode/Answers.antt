@@ -1,21 +1,16 @@
-use Rattle.std.proofs.Common.{◌≡◌, ℕ, ◌-◌, List, length, take, Some, vec_items, Option, sym, ap, ◌∙◌, subst, arith, MatchResult}
-use Rattle.dumps.specs.Reading.{decoded}
-use Rattle.loader.specs.Digits.{Unread}
-use Rattle.loader.proofs.Feeds.{held_fed, held_unfed, held_short}
+use Rattle.std.proofs.Common.{◌<◌, length, refl, arith, rules}
+use Rattle.std.proofs.lemmas.Grind.{common_steps}
+use Rattle.loader.proofs.Feeds.{held_by_last, held_short}
 use Rattle.loader.proofs.digits.decode.Goals as goal
-use Rattle.loader.proofs.digits.decode.Goals.{then-count-lt-SHORTEST_LINE-via-then-count-lt-SHORTEST_LINE, then-count-lt-SHORTEST_LINE-via-else-count-lt-SHORTEST_LINE+then-line-count-ne-LINE_FEED}
+use Rattle.loader.proofs.digits.decode.Goals.{in_default-via-then-line-lt1, in_default-via-in-10+else-not-is_empty, in_default-via-else-line-lt1+in_default-1}
 
-pub returns-then-count-lt-SHORTEST_LINE : goal.returns-then-count-lt-SHORTEST_LINE
-returns-then-count-lt-SHORTEST_LINE c =
-    let line = c.args.line.now in
-    elim c.then-count-lt-SHORTEST_LINE.branch [
-      | then-count-lt-SHORTEST_LINE-via-then-count-lt-SHORTEST_LINE w ↦ held_short line w.if-count-lt-SHORTEST_LINE.true
-      | then-count-lt-SHORTEST_LINE-via-else-count-lt-SHORTEST_LINE+then-line-count-ne-LINE_FEED w ↦ held_unfed line w.if-count-lt-SHORTEST_LINE.false w.if-line-count-ne-LINE_FEED.true
+pub returns-in-10 : goal.returns-in-10
+returns-in-10 c = grind (arith, common_steps, held_by_last)
+
+pub returns-in_default : goal.returns-in_default
+returns-in_default c =
+    elim c.in_default.branch [
+      | in_default-via-then-line-lt1 w ↦ (refl, let short : length c.args.line.now < 1 = search rules in held_short c.args.line.now (omega arith))
+      | in_default-via-in-10+else-not-is_empty w ↦ (refl, grind (arith, common_steps, held_by_last))
+      | in_default-via-else-line-lt1+in_default-1 w ↦ (refl, grind (arith, common_steps, held_by_last))
     ]
-
-pub returns : goal.returns
-returns c =
-    let line = c.args.line.now in
-    let P : Option (List ℕ) → Type 0 = λ o. MatchResult c.spelled.result (λ v. o ≡ Some (vec_items v)) (λ e. Unread e o) in
-    let cut : length line - 1 ≡ length line - 1 - 0 = omega arith in
-    subst P (sym (held_fed line c.if-count-lt-SHORTEST_LINE.false c.if-line-count-ne-LINE_FEED.false ∙ ap (λ n. decoded (take n line)) cut)) c.spelled.ensures
