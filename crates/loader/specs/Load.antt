@@ -1,8 +1,7 @@
 -- What loading a text answers, and the circuit that it leaves in the caller's block.
-use Rattle.std.specs.Prelude.{◌≡◌, ℕ, ◌-◌, ◌<◌, ◌≤◌, List, ◌∷◌, length, take, drop, Some, None, Ok, Err, Option, Result}
+use Rattle.std.specs.Prelude.{◌≡◌, ℕ, ◌<◌, List, length, Some, None, Ok, Err, Option, Result}
 use Rattle.circuit.specs.Circuit.{Circuit, empty}
 use Rattle.dumps.specs.Ground.{number_of}
-use Rattle.dumps.specs.Spelling.{lines}
 use Rattle.dumps.specs.Verdict.{Verdict, accepted, refused, Judged}
 use Rattle.netlist.specs.declared.block.Block.{Block}
 use Rattle.netlist.specs.Circuits.{circuit}
@@ -52,9 +51,3 @@ Refusing Memory text verdict = 0 < length text
 abbrev pub TextRead : Result Block LoadError → List ℕ → Verdict → Type 0
 TextRead (Ok b) text verdict = verdict ≡ accepted (circuit b)
 TextRead (Err e) text verdict = Refusing e text verdict
-
--- the first line of what is left of a text runs from here to there
-pub record FirstLine (text : List ℕ) (start end : ℕ) : Type 0 where
-  pub some_byte : start < end
-  pub within : end ≤ length text
-  pub cut : lines (drop start text) ≡ take (end - start) (drop start text) ∷ lines (drop end text)

@@ -1,53 +1,42 @@
-use Rattle.std.proofs.Common.{◌+◌, ◌-◌, length, take, drop, sym, ap, ◌∙◌, subst, ⊎_elim, arith}
-use native.Mathlib.Nat.{min-le_left}
-use Rattle.std.proofs.lemmas.List.{length-take, drop_all}
-use Rattle.dumps.specs.Spelling.{lines}
-use Rattle.dumps.specs.Verdict.{accepted}
-use Rattle.dumps.specs.Reading.{run, judge}
-use Rattle.loader.specs.declared.text.LoadError.{LoadError}
-use Rattle.loader.specs.Load.{with_line, Refusing}
-use Rattle.loader.specs.Assemblies.{state_of}
-use Rattle.loader.proofs.Runs.{run_on, run_done, run_short, taken_long, taken_covered}
+use Rattle.std.proofs.Common.{rules, of_calls, ◌≡◌, ◌∷◌, eqb, sym, ◌∙◌, arith}
+use Rattle.std.specs.Slice.Iter.{split_inclusive_rest}
+use Rattle.std.proofs.lemmas.List.Sorted.{answers_always}
+use Rattle.std.proofs.lemmas.List.{nil_from_length}
+use Rattle.std.proofs.lemmas.Result.{err_from_is_err_and}
+use Rattle.dumps.specs.Spelling.{line_feed, lines}
+use Rattle.loader.proofs.Cuts.{line_cut}
+use Rattle.loader.proofs.Runs.{reached_start, reached_more, at_line, at_line-from_map_err, refusing, finishing}
+use Rattle.loader.proofs.text.read.Goals.{In-Some, After-map_err}
 use Rattle.loader.proofs.text.read.Goals as goal
 
-pub loop-start-preserved : goal.loop-start-preserved
-loop-start-preserved c =
-    let text = c.args.text.now in
-    let start = c.loop-start.start in
-    let n = c.loop-start.line + 1 in
-    let end = c.line_end-end.result in
-    let s = state_of c.loop-start.assembly in
-    let t = state_of c.take.new.self in
-    let line = take (end - start) (drop start text) in
-    let inv = c.loop-start.invariant in
-    let first = c.line_end-end.ensures in
-    let taken = c.in-Ok.ensures in
-    let cut = length-take (end - start) (drop start text) in
-    let short = min-le_left (end - start) (length (drop start text)) in (
-      omega (arith, inv.0, taken_long s t line taken, cut, short),
-      first.within,
-      inv.2 ∙ (ap (run s n) first.cut ∙ run_on s t n line (lines (drop end text)) taken),
-      taken_covered s t line taken,
-    )
+cut : (c : In-Some) → lines (split_inclusive_rest c.loop-line.line-iterator) ≡ c.in-Some.line.now ∷ lines (split_inclusive_rest c.next.new.self)
+cut c =
+    let steps = c.in-Some.ensures.steps in
+    line_cut _ _ _ steps.1.0 steps.0 steps.1.1 steps.2 (steps.1.2 (λ b. eqb b line_feed) (answers_always _ _ _ (λ f a r f' h. search rules))).1
 
-pub returns-in-Ok-finish : goal.returns-in-Ok-finish
-returns-in-Ok-finish c =
-    let text = c.args.text.now in
-    let start = c.loop-start.start in
-    let n = c.loop-start.line + 1 in
-    let s = state_of c.loop-start.assembly in
-    let done = c.in-Ok-finish.ensures in
-    c.loop-start.invariant.2 ∙ (ap (λ ys. run s n (lines ys)) (drop_all start text c.loop-start-test.false) ∙ (run_done s n done.0 ∙ ap accepted (sym done.1)))
+mapped : (c : After-map_err) → c.map_err.result ≡ at_line c.take.result c.loop-line.number
+mapped c = at_line-from_map_err _ _ _ _ c.map_err.ensures.cases (λ f e h. search rules)
 
-pub returns-in-Err-finish : goal.returns-in-Err-finish
-returns-in-Err-finish c =
-    let text = c.args.text.now in
-    let start = c.loop-start.start in
-    let n = c.loop-start.line + 1 in
-    let s = state_of c.loop-start.assembly in
-    let inv = c.loop-start.invariant in
-    let P : LoadError → Type 0 = λ e. Refusing e text (judge text) in
-    ⊎_elim
-    (λ h. subst P (sym (c.at-in-Err-finish.ensures ∙ ap (λ f. with_line f n) h.1)) (inv.2 ∙ (ap (λ ys. run s n (lines ys)) (drop_all start text c.loop-start-test.false) ∙ run_short s n h.0)))
-    (λ h. absurd (h.1 (inv.3 h.0)))
-    c.in-Err-finish.ensures
+pub loop-line-init : goal.loop-line-init
+loop-line-init c = (search of_calls, tt, rw (c.into_iter-line-iterator.ensures.into_iter_gives, c.split_inclusive-line-items.ensures.rest, c.new-assembly.ensures) (reached_start c.args.text.now))
+
+pub returns-in_err-map_err : goal.returns-in_err-map_err
+returns-in_err-map_err c =
+    let p = err_from_is_err_and c.from_residual.result c.from_residual.ensures.1 in
+    let at = goal.at.returns-in_err-map_err c in
+    let steps = c.in-Some.ensures.steps in
+    rw (p.1, p.2) (refusing _ _ _ _ _ _ _ c.loop-line.invariant.2 steps.0 (cut at.In-Some) _ _ steps.2 c.take.ensures (sym c.in_err-map_err.was ∙ mapped at.After-map_err))
+
+pub overflow_add-number : goal.overflow_add-number
+overflow_add-number c = omega (arith, c.loop-line.invariant.2.counted, c.loop-line.invariant.2.from_one)
+
+pub loop-line-preserved : goal.loop-line-preserved
+loop-line-preserved c =
+    let at = goal.at.loop-line-preserved c in
+    (search rules, tt, reached_more _ _ _ _ _ _ _ c.loop-line.invariant.2 c.in-Some.ensures.steps.0 (cut at.In-Some) _ _ c.take.ensures (sym c.in_ok-map_err.was ∙ mapped at.After-map_err))
+
+pub returns : goal.returns
+returns c =
+    let out : c.map_err-2.result ≡ at_line c.finish.result c.loop-line.number = at_line-from_map_err _ _ _ _ c.map_err-2.ensures.cases (λ f e h. search rules) in
+    let none = nil_from_length _ c.in-None.ensures.steps.0 in
+    rw out (finishing _ _ _ _ (rw none at c.loop-line.invariant.2) c.finish.ensures)
