@@ -1,8 +1,35 @@
--- Digits read so far, and those that are left.
-use Rattle.std.proofs.Common.{◌≡◌, ℕ, ◌+◌, ◌-◌, ◌*◌, ◌<◌, ◌≤◌, List, [], ◌∷◌, ◌++◌, length, get_or, take, drop, Some, None, Option, sym, refl, ap, ◌∙◌, arith}
+-- Digits read so far, and those that are left, two a byte.
+use Rattle.std.proofs.Common.{◌≡◌, ℕ, zero, suc, ◌+◌, ◌*◌, ◌/◌, ◌%◌, ◌<◌, ◌≤◌, List, [], ◌∷◌, ◌++◌, length, get_or, drop, Some, None, Option, sym, refl, ap, ◌∙◌, arith, drop-cons, add-one}
 use Rattle.std.specs.Option.{option_map}
-use Rattle.std.proofs.lemmas.List.{append-nil, append_assoc, take_rest}
+use Rattle.std.specs.Simd.{first_chunks}
+use Rattle.std.proofs.lemmas.List.{append-nil, append_assoc, drop_all}
 use Rattle.dumps.specs.Reading.{value, with_byte, decoded}
+
+-- the bytes that pairs of digits spell
+abbrev pub paired : List (List ℕ) → Option (List ℕ)
+paired [] = Some []
+paired (pair ∷ more) = with_byte (value (get_or pair 0 0)) (value (get_or pair 1 0)) (paired more)
+
+by_pairs : (k : ℕ) (digits : List ℕ) → k + k ≡ length digits → decoded digits ≡ paired (first_chunks 2 k digits)
+by_pairs zero [] e = refl
+by_pairs zero (a ∷ digits) e = absurd (omega arith)
+by_pairs (suc k) [] e = absurd (omega arith)
+by_pairs (suc k) (a ∷ []) e = absurd (omega arith)
+by_pairs (suc k) (a ∷ (b ∷ more)) e = ap (with_byte (value a) (value b)) (by_pairs k more (omega arith))
+
+pub decoded_by_chunks : (digits : List ℕ) → length digits % 2 ≡ 0 → decoded digits ≡ paired (first_chunks 2 (length digits / 2) digits)
+decoded_by_chunks digits e = by_pairs (length digits / 2) digits (omega arith)
+
+byte_none : (high low : Option ℕ) → with_byte high low None ≡ None
+byte_none None low = refl
+byte_none (Some h) None = refl
+byte_none (Some h) (Some l) = refl
+
+-- one digit is left over
+pub decoded_odd : (digits : List ℕ) → 0 < length digits % 2 → decoded digits ≡ None
+decoded_odd [] o = absurd (omega arith)
+decoded_odd (a ∷ []) o = refl
+decoded_odd (a ∷ (b ∷ more)) o = ap (with_byte (value a) (value b)) (decoded_odd more (omega arith)) ∙ byte_none (value a) (value b)
 
 -- what comes after bytes that were read
 abbrev pub after : List ℕ → Option (List ℕ) → Option (List ℕ)
@@ -16,34 +43,20 @@ after_byte : (bytes : List ℕ) (h l : ℕ) (more : Option (List ℕ)) → after
 after_byte bytes h l None = refl
 after_byte bytes h l (Some rest) = ap Some (sym (append_assoc bytes ((h * 16 + l) ∷ []) rest))
 
--- two digits more
-pub after_more : (bytes : List ℕ) (a b h l : ℕ) (more : List ℕ) → value a ≡ Some h → value b ≡ Some l → after bytes (decoded (a ∷ (b ∷ more))) ≡ after (bytes ++ ((h * 16 + l) ∷ [])) (decoded more)
-after_more bytes a b h l more p q =
-    ap (λ v. after bytes (with_byte v (value b) (decoded more))) p
-    ∙ (ap (λ v. after bytes (with_byte (Some h) v (decoded more))) q ∙ after_byte bytes h l (decoded more))
+module _ (bytes : List ℕ) (pairs : List (List ℕ)) (i : ℕ) (within : i < length pairs) where
+  next : paired (drop i pairs) ≡ with_byte (value (get_or (get_or pairs i []) 0 0)) (value (get_or (get_or pairs i []) 1 0)) (paired (drop (i + 1) pairs))
+  next = ap paired (drop-cons pairs i [] within) ∙ rw add-one refl
 
-pub high_foreign : (bytes : List ℕ) (a b : ℕ) (more : List ℕ) → value a ≡ None → after bytes (decoded (a ∷ (b ∷ more))) ≡ None
-high_foreign bytes a b more p = ap (λ v. after bytes (with_byte v (value b) (decoded more))) p
+  -- a pair more
+  pub after_more : (h l : ℕ) → value (get_or (get_or pairs i []) 0 0) ≡ Some h → value (get_or (get_or pairs i []) 1 0) ≡ Some l → after bytes (paired (drop i pairs)) ≡ after (bytes ++ ((h * 16 + l) ∷ [])) (paired (drop (i + 1) pairs))
+  after_more h l high low = rw (next, high, low) (after_byte bytes h l (paired (drop (i + 1) pairs)))
 
-pub low_foreign : (bytes : List ℕ) (a b h : ℕ) (more : List ℕ) → value a ≡ Some h → value b ≡ None → after bytes (decoded (a ∷ (b ∷ more))) ≡ None
-low_foreign bytes a b h more p q =
-    ap (λ v. after bytes (with_byte v (value b) (decoded more))) p ∙ ap (λ v. after bytes (with_byte (Some h) v (decoded more))) q
+  pub high_foreign : value (get_or (get_or pairs i []) 0 0) ≡ None → after bytes (paired (drop i pairs)) ≡ None
+  high_foreign high = rw (next, high) refl
+
+  pub low_foreign : (h : ℕ) → value (get_or (get_or pairs i []) 0 0) ≡ Some h → value (get_or (get_or pairs i []) 1 0) ≡ None → after bytes (paired (drop i pairs)) ≡ None
+  low_foreign h high low = rw (next, high, low) refl
 
 -- no digit is left
-pub after_all : (bytes rest : List ℕ) → length rest ≡ 0 → after bytes (decoded rest) ≡ Some bytes
-after_all bytes [] e = ap Some (append-nil bytes)
-after_all bytes (a ∷ rest) e = absurd (omega arith)
-
--- one digit is left
-pub after_odd : (bytes rest : List ℕ) → length rest < 2 → 0 < length rest → after bytes (decoded rest) ≡ None
-after_odd bytes [] l m = absurd (omega arith)
-after_odd bytes (a ∷ []) l m = refl
-after_odd bytes (a ∷ (b ∷ rest)) l m = absurd (omega arith)
-
--- two digits more, of a slice that has them
-pub after_two : (bytes digits : List ℕ) (h l : ℕ) → 2 ≤ length digits → value (get_or digits 0 0) ≡ Some h → value (get_or digits 1 0) ≡ Some l
-    → after bytes (decoded digits) ≡ after (bytes ++ ((h * 16 + l) ∷ [])) (decoded (take (length digits - 2) (drop 2 digits)))
-after_two bytes [] h l e p q = absurd (omega arith)
-after_two bytes (a ∷ []) h l e p q = absurd (omega arith)
-after_two bytes (a ∷ (b ∷ more)) h l e p q =
-    after_more bytes a b h l more p q ∙ ap (λ rest. after (bytes ++ ((h * 16 + l) ∷ [])) (decoded rest)) (sym (take_rest (a ∷ (b ∷ more)) 2))
+pub after_all : (bytes : List ℕ) (pairs : List (List ℕ)) (i : ℕ) → length pairs ≤ i → after bytes (paired (drop i pairs)) ≡ Some bytes
+after_all bytes pairs i past = rw (drop_all i pairs past) (ap Some (append-nil bytes))

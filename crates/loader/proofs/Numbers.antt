@@ -1,17 +1,16 @@
--- Fields read so far, and those that are left.
-use Rattle.std.proofs.Common.{◌≡◌, ℕ, ◌-◌, ◌<◌, ◌≤◌, List, [], ◌∷◌, ◌++◌, length, get_or, take, drop, sym, ap, ◌∙◌, arith}
-use Rattle.std.proofs.lemmas.List.{append-nil, append_assoc, take_rest}
+-- Fields of two bytes.
+use Rattle.std.proofs.Common.{◌≡◌, ℕ, zero, suc, ◌/◌, List, [], ◌∷◌, length, map, refl, ap, arith}
+use Rattle.std.specs.Int.{w16, from_be_bytes}
+use Rattle.std.specs.Simd.{first_chunks}
 use Rattle.dumps.specs.Reading.{number, numbers}
 
--- one field more, of a slice that has it
-pub numbers_more : (all bytes : List ℕ) → 2 ≤ length bytes → all ++ numbers bytes ≡ (all ++ (number (get_or bytes 0 0) (get_or bytes 1 0) ∷ [])) ++ numbers (take (length bytes - 2) (drop 2 bytes))
-numbers_more all [] l = absurd (omega arith)
-numbers_more all (a ∷ []) l = absurd (omega arith)
-numbers_more all (a ∷ (b ∷ more)) l =
-    sym (append_assoc all (number a b ∷ []) (numbers more)) ∙ ap (λ rest. (all ++ (number a b ∷ [])) ++ numbers rest) (sym (take_rest (a ∷ (b ∷ more)) 2))
+by_pairs : (k : ℕ) (bytes : List ℕ) → k ≡ length bytes / 2 → numbers bytes ≡ map (from_be_bytes w16) (first_chunks 2 k bytes)
+by_pairs zero [] e = refl
+by_pairs zero (a ∷ []) e = refl
+by_pairs zero (a ∷ (b ∷ more)) e = absurd (omega arith)
+by_pairs (suc k) [] e = absurd (omega arith)
+by_pairs (suc k) (a ∷ []) e = absurd (omega arith)
+by_pairs (suc k) (a ∷ (b ∷ more)) e = ap (λ ns. number a b ∷ ns) (by_pairs k more (omega arith))
 
--- no field is left
-pub numbers_all : (all bytes : List ℕ) → length bytes < 2 → all ++ numbers bytes ≡ all
-numbers_all all [] l = append-nil all
-numbers_all all (a ∷ []) l = append-nil all
-numbers_all all (a ∷ (b ∷ more)) l = absurd (omega arith)
+pub numbers_by_chunks : (bytes : List ℕ) → numbers bytes ≡ map (from_be_bytes w16) (first_chunks 2 (length bytes / 2) bytes)
+numbers_by_chunks bytes = by_pairs (length bytes / 2) bytes refl

@@ -14,6 +14,9 @@ const BASE: u8 = 16;
 
 const TEN: u8 = 10;
 
+// The digits of a byte.
+const PAIR: usize = 2;
+
 // The value of a hexadecimal digit.
 fn value(digit: u8) -> Result<u8, LineFault>
     ensures { MatchResult result (λ v. value digit ≡ Some v) (λ e. Unread e (value digit)) }
@@ -29,17 +32,15 @@ fn value(digit: u8) -> Result<u8, LineFault>
 fn spelled(digits: &[u8], heap: Global) -> Result<Vec<u8>, LineFault>
     ensures { MatchResult result (λ v. decoded digits.now ≡ Some v.items) (λ e. Unread e (decoded digits.now)) }
 {
+    let (pairs, rest) = digits.as_chunks::<PAIR>();
+    if !rest.is_empty() {
+        return Err(LineFault::Refused(Ground::Spelling));
+    }
     let mut bytes = Vec::new(heap);
-    let mut rest = digits;
-    while let [high, low, more @ ..] = rest {
+    for [high, low] in pairs {
         bytes.push(value(*high)? * BASE + value(*low)?)?;
-        rest = more;
     }
-    if rest.is_empty() {
-        Ok(bytes)
-    } else {
-        Err(LineFault::Refused(Ground::Spelling))
-    }
+    Ok(bytes)
 }
 
 // The bytes that a line holds, with the line feed that ends it.

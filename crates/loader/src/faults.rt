@@ -7,7 +7,7 @@ ghost use Rattle.loader.specs.Lines.{of_block};
 use crate::text::LoadError;
 use dumps::Ground;
 use netlist::BlockFault;
-use std::alloc::AllocFailed;
+use std::alloc::{AllocError, AllocFailed};
 
 #[derive(Clone, Copy)]
 pub enum LineFault {
@@ -24,6 +24,14 @@ impl LineFault {
             LineFault::Refused(ground) => LoadError::Refused { ground, line },
             LineFault::Memory => LoadError::Memory,
         }
+    }
+}
+
+impl From<AllocError> for LineFault {
+    ghost from_gives = { λ _ fault. fault ≡ Memory };
+
+    fn from(_e: AllocError) -> LineFault {
+        LineFault::Memory
     }
 }
 

@@ -1,15 +1,14 @@
 // The frame layer: the frame that a line says.
-ghost use Rattle.std.specs.Prelude.{◌≡◌, Some, MatchResult};
+ghost use Rattle.std.specs.Prelude.{◌≡◌, Some, IfOk, MatchResult};
 ghost use Rattle.dumps.specs.Frame.{kind};
 ghost use Rattle.dumps.specs.Reading.{numbers, parsed};
 ghost use Rattle.loader.specs.Frames.{frame_of, kind_number, SaysFrame, Unframed, Unparsed};
-ghost use Rattle.loader.specs.declared.faults.LineFault.TheVariants.{Memory};
 
 use crate::digits::decode;
 use crate::faults::LineFault;
 use dumps::Ground;
 use netlist::Terminal;
-use std::alloc::Global;
+use std::alloc::{AllocError, Global};
 
 const DOMAINS: u8 = 0x01;
 
@@ -72,16 +71,14 @@ impl Frame {
 }
 
 // The numbers that fields of two bytes hold, the high byte first.
-fn fields(bytes: &[u8], heap: Global) -> Result<Vec<u16>, LineFault>
-    ensures { MatchResult result (λ v. v.items ≡ numbers bytes.now) (λ e. e ≡ Memory) }
+fn fields(bytes: &[u8], heap: Global) -> Result<Vec<u16>, AllocError>
+    ensures { IfOk result (λ v. v.items ≡ numbers bytes.now) }
 {
-    let mut all = Vec::new(heap);
-    let mut rest = bytes;
-    while let [high, low, more @ ..] = rest {
-        all.push(u16::from_be_bytes([*high, *low]))?;
-        rest = more;
-    }
-    Ok(all)
+    let (fields, _) = bytes.as_chunks::<FIELD>();
+    fields
+        .iter()
+        .map(|field| u16::from_be_bytes(*field))
+        .collect(heap)
 }
 
 // The frame that bytes write: the kind first, and fixed fields after it.

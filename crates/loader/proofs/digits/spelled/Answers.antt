@@ -1,12 +1,19 @@
-use Rattle.std.proofs.Common.{◌-◌, ◌≤◌, length, take, drop, vec_items, sym, ap, ◌∙◌, rules}
-use Rattle.dumps.specs.Reading.{decoded}
-use Rattle.loader.proofs.Decoded.{after, after_two}
+use Rattle.std.proofs.Common.{◌≡◌, ◌<◌, ◌%◌, length, refl, arith, ◌∙◌}
+use Rattle.std.proofs.lemmas.Bool.Decides.{nat_tests}
+use Rattle.loader.proofs.Decoded.{after_none, after_more, decoded_by_chunks, decoded_odd}
 use Rattle.loader.proofs.digits.spelled.Goals as goal
 
-pub loop-rest-preserved : goal.loop-rest-preserved
-loop-rest-preserved c =
-    let rest = c.loop-rest.rest.now in
-    let long : 2 ≤ length rest = search rules in
-    c.loop-rest.invariant
-    ∙ (after_two (vec_items c.loop-rest.bytes) rest c.in_ok-value.field-0 c.in_ok-value-2.field-0 long c.in_ok-value.ensures c.in_ok-value-2.ensures
-    ∙ ap (λ bytes. after bytes (decoded (take (length rest - 2) (drop 2 rest)))) (sym c.in_ok-push.ensures.items))
+pub returns-then-not-is_empty : goal.returns-then-not-is_empty
+returns-then-not-is_empty c =
+    let digits = c.args.digits.now in
+    let odd : 0 < length digits % 2 = grind (arith, nat_tests) in
+    (refl, decoded_odd digits odd)
+
+pub loop-high-init : goal.loop-high-init
+loop-high-init c =
+    let digits = c.args.digits.now in
+    let even : length digits % 2 ≡ 0 = grind (arith, nat_tests) in
+    rw (c.new-bytes.ensures.items, c.as_chunks.ensures.front) (decoded_by_chunks digits even ∙ after_none _)
+
+pub loop-high-preserved : goal.loop-high-preserved
+loop-high-preserved c = rw c.in_ok-push.ensures.items (c.loop-high.invariant ∙ after_more _ _ _ c.loop-high-test.true _ _ c.in_ok-value.ensures c.in_ok-value-2.ensures)
