@@ -15,12 +15,12 @@ pub const MOST_BYTES: usize = 65536;
 
 const TOO_LONG: &str = "refused 20: more than 65536 bytes\n";
 
-// The skews of a block, each after a blank.
-fn skew_list(block: &Block, heap: Global) -> Result<String, AllocError>
-    ensures { IfOk result (λ s. string_bytes s ≡ skew_words (circuit block.now).skews) }
+// Skews, each after a blank.
+fn skew_list(skews: &[u16], heap: Global) -> Result<String, AllocError>
+    ensures { IfOk result (λ s. string_bytes s ≡ skew_words skews.now) }
 {
     let mut all = String::new(heap);
-    for skew in block.skews() {
+    for skew in skews {
         write!(all, " {skew}")?;
     }
     Ok(all)
@@ -30,7 +30,7 @@ fn of_block(block: &Block, heap: Global) -> Result<String, AllocError>
     ensures { IfOk result (λ s. string_bytes s ≡ shown (accepted (circuit block.now))) }
 {
     let parts = block.parts();
-    let skews = skew_list(block, heap)?;
+    let skews = skew_list(block.skews(), heap)?;
     let flops = block.flip_flops().len();
     let gates = block.gates().len();
     let wires = block.wires().len();
@@ -46,8 +46,7 @@ fn of_error(error: LoadError, heap: Global) -> Result<String, AllocError>
     match error {
         LoadError::Refused { ground, line } => {
             let number = ground.number();
-            let reason = ground.reason();
-            format!(in heap; "refused {number} at line {line}: {reason}\n")
+            format!(in heap; "refused {number} at line {line}: {ground}\n")
         }
         LoadError::Memory => Err(AllocError),
     }

@@ -247,8 +247,22 @@ fn check_first<N: Debug, E, F: PartialEq + Debug + Copy, G: Fn(&E) -> F, T: Fn(u
 // The first elements of each class, this many, are as the text has them.
 fn check_elements<N: Debug>(rt: &impl Abort, name: &N, block: &Block, sizes: Sizes) {
     let (flops, gates, wires) = sizes;
-    check_first(rt, name, block.flip_flops(), flops, flop_figures, |n| (n, -1));
-    check_first(rt, name, block.gates(), gates, gate_figures, |n| (n, u16::MAX));
+    check_first(
+        rt,
+        name,
+        block.flip_flops(),
+        flops,
+        flop_figures,
+        |n| (n, -1),
+    );
+    check_first(
+        rt,
+        name,
+        block.gates(),
+        gates,
+        gate_figures,
+        |n| (n, u16::MAX),
+    );
     check_first(rt, name, block.wires(), wires, wire_figures, wire_in_text);
 }
 
