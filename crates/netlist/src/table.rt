@@ -40,7 +40,7 @@ impl<T: Drop, const MOST: usize> Table<T, MOST> {
         self.rows.as_slice()
     }
 
-    // Whether one element more may come.
+    // Refuses where the table is full.
     pub(crate) fn room(&self) -> Result<(), BlockFault>
         ensures room { IsOk result ↔ (length self.now < MOST) }
         ensures full { IfErr result (λ e. e ≡ Surplus) }

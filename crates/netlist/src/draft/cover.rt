@@ -16,7 +16,7 @@ fn mark(marks: &mut [bool], place: Place)
 {
     if let Place::Gate(number) = place {
         let gate = usize::from(number);
-        // By index: `get_mut` of a slice says nothing of what the slice ends as.
+        // By index: tried with `get_mut`, which does not say what a slice ends as, and the proof did not close.
         if gate < marks.len() {
             marks[gate] = true;
         }
