@@ -1,8 +1,8 @@
 -- Digits read so far, and those that are left, two a byte.
-use Rattle.std.proofs.Common.{◌≡◌, ℕ, zero, suc, ◌+◌, ◌*◌, ◌/◌, ◌%◌, ◌<◌, ◌≤◌, List, [], ◌∷◌, ◌++◌, length, get_or, drop, Some, None, Option, sym, refl, ap, ◌∙◌, arith, drop-cons, add-one}
+use Rattle.std.proofs.Common.{◌≡◌, ℕ, zero, suc, ◌+◌, ◌*◌, ◌/◌, ◌%◌, ◌<◌, List, [], ◌∷◌, ◌++◌, length, get_or, drop, Some, None, Option, sym, refl, ap, ◌∙◌, arith, drop-cons, add-one}
 use Rattle.std.specs.Option.{option_map}
 use Rattle.std.specs.Simd.{first_chunks}
-use Rattle.std.proofs.lemmas.List.{append-nil, append_assoc, drop_all}
+use Rattle.std.proofs.lemmas.List.{append_assoc}
 use Rattle.dumps.specs.Reading.{value, with_byte, decoded}
 
 -- the bytes that pairs of digits spell
@@ -50,13 +50,3 @@ module _ (bytes : List ℕ) (pairs : List (List ℕ)) (i : ℕ) (within : i < le
   -- a pair more
   pub after_more : (h l : ℕ) → value (get_or (get_or pairs i []) 0 0) ≡ Some h → value (get_or (get_or pairs i []) 1 0) ≡ Some l → after bytes (paired (drop i pairs)) ≡ after (bytes ++ ((h * 16 + l) ∷ [])) (paired (drop (i + 1) pairs))
   after_more h l high low = rw (next, high, low) (after_byte bytes h l (paired (drop (i + 1) pairs)))
-
-  pub high_foreign : value (get_or (get_or pairs i []) 0 0) ≡ None → after bytes (paired (drop i pairs)) ≡ None
-  high_foreign high = rw (next, high) refl
-
-  pub low_foreign : (h : ℕ) → value (get_or (get_or pairs i []) 0 0) ≡ Some h → value (get_or (get_or pairs i []) 1 0) ≡ None → after bytes (paired (drop i pairs)) ≡ None
-  low_foreign h high low = rw (next, high, low) refl
-
--- no digit is left
-pub after_all : (bytes : List ℕ) (pairs : List (List ℕ)) (i : ℕ) → length pairs ≤ i → after bytes (paired (drop i pairs)) ≡ Some bytes
-after_all bytes pairs i past = rw (drop_all i pairs past) (ap Some (append-nil bytes))

@@ -4,5 +4,4 @@ pub mod Numbers
 pub mod Grounded
 pub mod Cuts
 pub mod Runs
-pub mod Called
 pub mod Lawful

@@ -23,27 +23,24 @@ use Rattle.loader.specs.Load.{with_line, Refusing, TextRead}
 use Rattle.loader.proofs.Feeds.{held_short}
 
 -- a line that was taken
-pub run_on : (s t : State) (n : ℕ) (line : List ℕ) (more : List (List ℕ)) → step s line ≡ Ok t → run s n (line ∷ more) ≡ run t (n + 1) more
+run_on : (s t : State) (n : ℕ) (line : List ℕ) (more : List (List ℕ)) → step s line ≡ Ok t → run s n (line ∷ more) ≡ run t (n + 1) more
 run_on s t n line more e = ap (λ r. onward r n (λ u. run u (n + 1) more)) e
 
 -- a line that was not
-pub run_off : (s : State) (g : Ground) (n : ℕ) (line : List ℕ) (more : List (List ℕ)) → step s line ≡ Err g → run s n (line ∷ more) ≡ refused (number_of g) n
+run_off : (s : State) (g : Ground) (n : ℕ) (line : List ℕ) (more : List (List ℕ)) → step s line ≡ Err g → run s n (line ∷ more) ≡ refused (number_of g) n
 run_off s g n line more e = ap (λ r. onward r n (λ u. run u (n + 1) more)) e
 
 -- no line is left
-pub run_done : (s : State) (n : ℕ) → s.reached ≡ 5 → run s n [] ≡ accepted s.circuit
+run_done : (s : State) (n : ℕ) → s.reached ≡ 5 → run s n [] ≡ accepted s.circuit
 run_done s n e = cond-true (eqb s.reached 5) (accepted s.circuit) (refused (number_of Order) n) (eq-eqb s.reached 5 e)
 
-pub run_short : (s : State) (n : ℕ) → (s.reached ≡ 5 → ⊥) → run s n [] ≡ refused (number_of Order) n
+run_short : (s : State) (n : ℕ) → (s.reached ≡ 5 → ⊥) → run s n [] ≡ refused (number_of Order) n
 run_short s n h = cond-false (eqb s.reached 5) (accepted s.circuit) (refused (number_of Order) n) (ne_eqb s.reached 5 h)
 
-ok_not_err : {X Y : Type 0} {x : X} {y : Y} → ◌≡◌ {A = Result X Y} (Err y) (Ok x) → ⊥
-ok_not_err e = let z : ◌≡◌ {A = ℕ} 0 1 = cc in omega arith
-
 -- a line that was taken has at least a digit and a line feed
-pub taken_long : (s t : State) (line : List ℕ) → step s line ≡ Ok t → 2 ≤ length line
+taken_long : (s t : State) (line : List ℕ) → step s line ≡ Ok t → 2 ≤ length line
 taken_long s t line e =
-    ⊎_elim (λ l. absurd (ok_not_err (sym (ap (spelt s) (held_short line l)) ∙ e))) (λ h. h) (cases_lt (length line) 2)
+    ⊎_elim (λ l. cc (ap (spelt s) (held_short line l))) (λ h. h) (cases_lt (length line) 2)
 
 -- a frame that may stand after the end of its tests
 free_covered : (c : Circuit) (f : Frame) → breach c f ≡ None → kind f ≡ 5 → Covered (grown c f)
@@ -55,7 +52,7 @@ free_covered c end_frame e k = joined_up_right (length c.gates) c.wires (by (joi
   where
     by : (t : Bool) → refuse_unless t Open None ≡ None → t ≡ true
     by true e = refl
-    by false e = absurd (let z : ◌≡◌ {A = ℕ} 0 1 = cc in omega arith)
+    by false e = cc
 
 same_error : {X : Type 0} {e d : LoadError} → ◌≡◌ {A = Result X LoadError} (Err e) (Err d) → e ≡ d
 same_error h = cc
@@ -71,22 +68,22 @@ admitted_covered s t f e r = by (may_stand s.reached (kind f)) e
         let same = same_state (record { reached = kind f; circuit = grown s.circuit f }) t e in
         let P : State → Type 0 = λ u. Covered u.circuit in
         subst P same (free_covered s.circuit f h (ap (λ (u : State). u.reached) same ∙ r))
-    free (Some g) h e = absurd (ok_not_err e)
+    free (Some g) h e = cc
 
     by : (b : Bool) → cond b (or_refuse (breach s.circuit f) (record { reached = kind f; circuit = grown s.circuit f })) (Err Order) ≡ Ok t → Covered t.circuit
     by true e = free (breach s.circuit f) refl e
-    by false e = absurd (ok_not_err e)
+    by false e = cc
 
 framed_covered : (s t : State) (o : Option Frame) → framed s o ≡ Ok t → t.reached ≡ 5 → Covered t.circuit
-framed_covered s t None e r = absurd (ok_not_err e)
+framed_covered s t None e r = cc
 framed_covered s t (Some f) e r = admitted_covered s t f e r
 
 spelt_covered : (s t : State) (o : Option (List ℕ)) → spelt s o ≡ Ok t → t.reached ≡ 5 → Covered t.circuit
-spelt_covered s t None e r = absurd (ok_not_err e)
+spelt_covered s t None e r = cc
 spelt_covered s t (Some bytes) e r = framed_covered s t (parsed bytes) e r
 
 -- past the end no gate is open
-pub taken_covered : (s t : State) (line : List ℕ) → step s line ≡ Ok t → t.reached ≡ 5 → Covered t.circuit
+taken_covered : (s t : State) (line : List ℕ) → step s line ≡ Ok t → t.reached ≡ 5 → Covered t.circuit
 taken_covered s t line e r = spelt_covered s t (held line) e r
 
 -- the reading of a text has come to the lines that are left
@@ -120,11 +117,11 @@ module _ (text left line rest : List ℕ) (s t : State) (n : ℕ) (so_far : Reac
         verdict = so_far.verdict ∙ (ap (run s n) cut ∙ run_on s t n line (lines rest) taken);
         closed = taken_covered s t line taken;
       }
-  reached_more (Err f) x taken h = absurd (ok_not_err (sym h))
+  reached_more (Err f) x taken h = cc
 
   -- the reading stops at this line
   pub refusing : {X : Type 0} (r : Result X LineFault) (e : LoadError) → 0 < length left → LineTaken s line r t → Err e ≡ at_line r n → Refusing e text (judge text)
-  refusing (Ok x) e some taken h = absurd (ok_not_err h)
+  refusing (Ok x) e some taken h = cc
   refusing (Err (line_fault.Refused g)) e some stopped h = let P : LoadError → Type 0 = λ e. Refusing e text (judge text) in subst P (sym (same_error h)) (so_far.verdict ∙ (ap (run s n) cut ∙ run_off s g n line (lines rest) stopped))
   refusing (Err line_fault.Memory) e some stopped h = let P : LoadError → Type 0 = λ e. Refusing e text (judge text) in subst P (sym (same_error h)) (omega (arith, so_far.counted, so_far.from_one))
 

@@ -1,5 +1,5 @@
-use Rattle.loader.proofs.Lawful.{every_sound_circuit_loads_lem}
+use Rattle.loader.proofs.Lawful.{dump_loads}
 use Rattle.loader.proofs.laws.every_sound_circuit_loads.Goals as goal
 
 pub returns : goal.returns
-returns c = every_sound_circuit_loads_lem
+returns c = dump_loads

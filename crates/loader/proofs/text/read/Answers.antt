@@ -1,4 +1,4 @@
-use Rattle.std.proofs.Common.{rules, of_calls, ◌≡◌, ◌∷◌, eqb, sym, ◌∙◌, arith}
+use Rattle.std.proofs.Common.{rules, of_calls, ◌≡◌, ◌∷◌, eqb, sym, ◌∙◌}
 use Rattle.std.specs.Slice.Iter.{split_inclusive_rest}
 use Rattle.std.proofs.lemmas.List.Sorted.{answers_always}
 use Rattle.std.proofs.lemmas.List.{nil_from_length}
@@ -26,9 +26,6 @@ returns-in_err-map_err c =
     let at = goal.at.returns-in_err-map_err c in
     let steps = c.in-Some.ensures.steps in
     rw (p.1, p.2) (refusing _ _ _ _ _ _ _ c.loop-line.invariant.2 steps.0 (cut at.In-Some) _ _ steps.2 c.take.ensures (sym c.in_err-map_err.was ∙ mapped at.After-map_err))
-
-pub overflow_add-number : goal.overflow_add-number
-overflow_add-number c = omega (arith, c.loop-line.invariant.2.counted, c.loop-line.invariant.2.from_one)
 
 pub loop-line-preserved : goal.loop-line-preserved
 loop-line-preserved c =
