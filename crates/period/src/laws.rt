@@ -6,6 +6,7 @@ ghost use Rattle.period.specs.Periods.{fraction, Compared, OnePeriodPerLength};
 use crate::period::Period;
 
 // Two periods of one length are one period.
+#[tactic(auto, using(crate::proofs::Lengths::one_per_length))]
 pub fn one_period_per_length()
     ensures { OnePeriodPerLength }
 {}

@@ -30,12 +30,6 @@ impl Ord for Period {
     fn cmp(&self, other: &Period) -> Ordering {
         let here = self.numerator as u128 * other.denominator as u128;
         let there = other.numerator as u128 * self.denominator as u128;
-        if here < there {
-            Ordering::Less
-        } else if there < here {
-            Ordering::Greater
-        } else {
-            Ordering::Equal
-        }
+        here.cmp(&there)
     }
 }

@@ -11,8 +11,6 @@ impl fmt::Display for Period {
     ghost output = { λ p. Some (text (fraction p)) };
 
     fn fmt<W: fmt::Write>(&self, f: &mut fmt::Formatter<W>) -> fmt::Result {
-        let numerator = self.numerator;
-        let denominator = self.denominator;
-        write!(f, "{numerator}/{denominator}")
+        write!(f, "{}/{}", self.numerator, self.denominator)
     }
 }

@@ -1,6 +1,6 @@
 use Rattle.std.proofs.Common.{ℕ}
 use Rattle.fractions.specs.Fraction.{GreatestDivisor}
-use Rattle.period.proofs.period.calls.common_divisor.Given as goal
+use Rattle.period.proofs.period.common_divisor.Given as goal
 
 -- what is the greatest divisor of the two numbers left is that of the first two
 abbrev pub invariant-loop-smaller : goal.invariant-loop-smaller
