@@ -13,11 +13,7 @@ impl TableBook {
     fn check(&self, place: usize) -> Option<TableCheck>
         ensures { result ≡ slice_get self.now.checks.items place }
     {
-        if place < self.checks.len() {
-            Some(self.checks[place])
-        } else {
-            None
-        }
+        self.checks.get(place).copied()
     }
 }
 
@@ -39,7 +35,7 @@ impl Book for TableBook {
     }
 
     fn floor(&self) -> Period {
-        Period::whole(self.floor)
+        Period::from(self.floor)
     }
 
     fn start(&self, place: usize) -> Option<usize> {
@@ -56,6 +52,6 @@ impl Book for TableBook {
             return None;
         }
         let check = self.check(place)?;
-        Some(Period::whole(self.tables[check.table][start_domain][end_domain]))
+        Some(Period::from(self.tables[check.table][start_domain][end_domain]))
     }
 }

@@ -32,5 +32,5 @@ returns c =
       c.if-end_domain-self.false,
       check_of (map rows_of (vec_items c.args.self.now.tables)) (entry_of c.in_ok-check.check),
       check_at (map rows_of (vec_items c.args.self.now.tables)) (vec_items c.args.self.now.checks) c.args.place _ c.in_ok-check.ensures,
-      whole_as_long (fraction c.whole.result) _ _ c.whole.ensures (figure_read (vec_items c.args.self.now.tables) c.in_ok-check.check.table c.args.start_domain c.args.end_domain _ _ _ t c.index.ensures row c.index-2.ensures column c.index-3.ensures),
+      whole_as_long (fraction c.from.result) _ _ c.from.ensures (figure_read (vec_items c.args.self.now.tables) c.in_ok-check.check.table c.args.start_domain c.args.end_domain _ _ _ t c.index.ensures row c.index-2.ensures column c.index-3.ensures),
     )
