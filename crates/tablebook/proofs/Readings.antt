@@ -5,15 +5,13 @@ use native.Mathlib.Bridge.{le_prop}
 use Rattle.std.specs.List.{slice_get}
 use Rattle.std.specs.Option.{option_map}
 use Rattle.std.specs.Global.{Vec}
-use Rattle.std.proofs.lemmas.List.{length-map, get_or_default}
+use Rattle.std.proofs.lemmas.List.{length-map, get_or-map, get_or_default}
 use Rattle.fractions.specs.Fraction.{Fraction, whole, AsLong}
 use Rattle.tablebook.specs.Sheets.{figure, check_of, TableFits, Kept}
 use Rattle.tablebook.specs.Tables.{rows_of, entry_of, sheet}
 use Rattle.tablebook.specs.declared.sheet.TableCheck.{TableCheck}
-use Rattle.tablebook.specs.Each.{mapped_read}
 use Rattle.checks.proofs.Nth.{nth_mapped}
-use Rattle.tablebook.specs.Stairs.{columns_of}
-use Rattle.tablebook.specs.Kept.{fits_there}
+use Rattle.tablebook.specs.Kept.{columns_of, fits_there}
 
 nth_map : {X Y : Type 0} (f : X → Y) (xs : List X) (k : ℕ) → slice_get (map f xs) k ≡ option_map f (slice_get xs k)
 nth_map f [] k = refl
@@ -23,6 +21,10 @@ nth_map f (x ∷ xs) (suc k) = nth_map f xs k
 mapped_twice : {X Y Z : Type 0} (f : Y → Z) (g : X → Y) (o : Option X) → option_map f (option_map g o) ≡ option_map (λ x. f (g x)) o
 mapped_twice f g (Some x) = refl
 mapped_twice f g None = refl
+
+-- an element that was read, mapped
+mapped_read : {X Y : Type 0} (f : X → Y) (xs : List X) (d : Y) (k : ℕ) (x : X) → k < length xs → x ≡ get_or xs k x → get_or (map f xs) k d ≡ f x
+mapped_read f xs d k x l e = get_or-map f xs k x d l ∙ ap f (sym e)
 
 -- the check at a place
 pub check_at : (tables : List (List (List ℕ))) (checks : List TableCheck) (place : ℕ) (o : Option TableCheck) → o ≡ slice_get checks place → slice_get (map (check_of tables) (map entry_of checks)) place ≡ option_map (λ c. check_of tables (entry_of c)) o

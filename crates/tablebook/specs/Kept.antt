@@ -1,33 +1,15 @@
 -- What a table book holds is sound.
-use Rattle.std.specs.Prelude.{◌≡◌, ℕ, ◌<◌, ◌≤◌, List, map, length, Some}
-use Rattle.std.proofs.Common.{sym, subst, ap, ◌∙◌, arith}
+use Rattle.std.specs.Prelude.{◌≡◌, ℕ, ◌<◌, ◌≤◌, List, [], length, slice_index_or, Some}
+use Rattle.std.proofs.Common.{sym, subst, arith}
 use Rattle.std.proofs.Math.Logic.{∥∥₁_elim}
 use Rattle.std.proofs.Math.Bridge.{le_prop}
 use Rattle.std.specs.List.{slice_get}
-use Rattle.std.specs.Global.{Vec}
 use Rattle.std.proofs.lemmas.List.{length-map}
 use Rattle.fractions.specs.Fraction.{Fraction, whole, NotLonger, Within}
 use Rattle.checks.specs.Limits.{most_checks}
 use Rattle.checks.specs.Model.{Check, Stands, SoundCheck, Sound}
-use Rattle.tablebook.specs.Sheets.{Entry, Sheet, nowhere, figure, check_of, model_of, blank, most_entries, most_figure, TableFits, EntryFits, Kept}
-use Rattle.tablebook.specs.Tables.{rows_of, entry_of, sheet}
-use Rattle.tablebook.specs.declared.sheet.TableCheck.{TableCheck}
+use Rattle.tablebook.specs.Sheets.{Entry, Sheet, nowhere, figure, check_of, model_of, most_entries, most_figure, TableFits, EntryFits, Kept}
 use Rattle.checks.proofs.Nth.{nth_inside, mapped_back}
-use Rattle.tablebook.specs.Stairs.{columns_of}
-
-pub blank_kept : Kept blank
-blank_kept = record {
-  fits = record {
-    counts_fit = record { few_flops = omega arith; some_domain = omega arith; few_domains = omega arith; few_entries = omega arith; floor_fits = omega arith };
-    tables_fit = λ t l. absurd (omega arith);
-    entries_fit = λ k l. absurd (omega arith);
-  };
-  lawful = λ t l. absurd (omega arith);
-}
-
--- copies of the lists of a sheet are a copy of the sheet
-pub filled_with : (flops domains floor : ℕ) (tables others : List (Vec (Vec ℕ))) (checks more : List TableCheck) → map rows_of tables ≡ map rows_of others → checks ≡ more → sheet flops domains floor tables checks ≡ sheet flops domains floor others more
-filled_with flops domains floor tables others checks more e f = ap (λ all. record { flops = flops; domains = domains; floor = floor; tables = all; entries = map entry_of checks }) e ∙ ap (λ all. record { flops = flops; domains = domains; floor = floor; tables = map rows_of others; entries = map entry_of all }) f
 
 -- the check of an entry at its place
 pub entry_stands : (s : Sheet) (place : ℕ) (c : Check) → Stands (model_of s) place c → (e : Entry) × (slice_get s.entries place ≡ Some e) × (c ≡ check_of s.tables e)
@@ -38,6 +20,10 @@ within_figure n l = record { few_units = omega arith; parted = omega arith; coar
 
 whole_figures : (a b : ℕ) → a ≤ b → NotLonger (whole a) (whole b)
 whole_figures a b l = omega arith
+
+-- the length of each row of a table that fits
+pub columns_of : (domains : ℕ) (rows : List (List ℕ)) → TableFits domains rows → (m : ℕ) → m < domains → length (slice_index_or rows m []) ≡ domains
+columns_of domains rows t m l = (t.each_row m (subst (λ n. m < n) (sym t.row_count) l)).columns
 
 figure_fits : (domains : ℕ) (rows : List (List ℕ)) → TableFits domains rows → (m n : ℕ) → m < domains → n < domains → figure rows m n ≤ most_figure
 figure_fits domains rows t m n l k = (t.each_row m (subst (λ z. m < z) (sym t.row_count) l)).figures n (subst (λ z. n < z) (sym (columns_of domains rows t m l)) k)

@@ -3,5 +3,3 @@ pub mod Tables
 pub mod Held
 pub mod Refusals
 pub mod Kept
-pub mod Stairs
-pub mod Each

@@ -72,9 +72,9 @@ pub record Fits (s : Sheet) : Type 0 where
 abbrev pub NeverRises : List ℕ → Type 0
 NeverRises row = (n : ℕ) → n + 1 < length row → slice_index row (n + 1) ≤ slice_index row n
 
--- no figure of a row is above that of another row
-abbrev pub NoneAbove : List ℕ → List ℕ → Type 0
-NoneAbove row other = (n : ℕ) → n < length row → slice_index row n ≤ slice_index other n
+-- no figure of a row is above the one below it, as far as both rows go
+abbrev pub StaysUnder : List ℕ → List ℕ → Type 0
+StaysUnder row below = (n : ℕ) → n < length row → n < length below → slice_index row n ≤ slice_index below n
 
 -- both laws of a table: figures never fall from row to row and never rise from column to column
 pub record Lawful (domains : ℕ) (rows : List (List ℕ)) : Type 0 where

@@ -5,7 +5,6 @@ ghost use Rattle.tablebook.specs.Tables.{sheet};
 use crate::sheet::TableCheck;
 
 mod calls;
-mod copies;
 pub(crate) mod kind;
 
 #[derive(Drop)]

@@ -6,10 +6,8 @@ ghost use Rattle.tablebook.specs.Held.{held};
 ghost use Rattle.tablebook.specs.Refusals.{fill_answer};
 
 use crate::faults::FillFault;
-use crate::fitting::{all_lawful, fits};
 use crate::sheet::Sheet;
 use crate::table::TableBook;
-use crate::table::copies::copy_tables;
 use std::alloc::Global;
 
 impl TableBook {
@@ -30,13 +28,13 @@ impl TableBook {
     pub fn fill(&mut self, sheet: Sheet<'_>, heap: Global) -> Result<(), FillFault>
         ensures { FillCall (held self.old) (given sheet.entry) (fill_answer result) (held self.new) }
     {
-        if !fits(sheet) {
+        if !sheet.fits() {
             return Err(FillFault::Limits);
         }
-        if !all_lawful(sheet.tables, sheet.domains) {
+        if !sheet.is_lawful() {
             return Err(FillFault::Laws);
         }
-        let tables = copy_tables(sheet.tables, heap)?;
+        let tables = Vec::from_clones(heap, sheet.tables)?;
         let checks = Vec::from_slice(heap, sheet.checks)?;
         *self = TableBook {
             flops: sheet.flops,
