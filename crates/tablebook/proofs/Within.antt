@@ -1,12 +1,23 @@
--- A sheet that is handed in is within the limits exactly when its counts, its tables and its checks are.
-use Rattle.std.proofs.Common.{[], map, length, get_or, sym, subst}
+-- A table is within the limits exactly when it has as many rows as domains and each row fits; a sheet that is handed in, exactly
+-- when its counts, its tables and its checks are.
+use Rattle.std.proofs.Common.{◌≡◌, ℕ, List, [], map, length, get_or, vec_items, sym, ◌∙◌, subst}
+use Rattle.std.specs.Global.{Vec}
 use Rattle.std.specs.List.{All}
 use Rattle.std.proofs.lemmas.List.{length-map}
 use Rattle.std.proofs.lemmas.List.Elements.{All-map}
 use Rattle.tablebook.specs.declared.sheet.Sheet.{Sheet}
-use Rattle.tablebook.specs.Sheets.{CountsFit, TableFits, EntryFits, Fits, nowhere}
+use Rattle.tablebook.specs.Sheets.{RowFits, CountsFit, TableFits, EntryFits, Fits, nowhere}
 use Rattle.tablebook.specs.Tables.{rows_of, entry_of, given}
 use Rattle.tablebook.proofs.Each.{each_unmapped}
+
+pub table_from : (domains : ℕ) (rows : List (Vec ℕ)) → length rows ≡ domains → All (λ row. RowFits domains (vec_items row)) rows → TableFits domains (map vec_items rows)
+table_from domains rows count each = record {
+  row_count = length-map rows vec_items ∙ count;
+  each_row = λ m l. All-map (RowFits domains) vec_items rows each m [] l;
+}
+
+pub rows_of_fit : (domains : ℕ) (rows : List (Vec ℕ)) → TableFits domains (map vec_items rows) → All (λ row. RowFits domains (vec_items row)) rows
+rows_of_fit domains rows t = each_unmapped vec_items (RowFits domains) rows [] t.each_row
 
 abbrev pub CountsOf : Sheet → Type 0
 CountsOf s = CountsFit s.flops s.domains (length s.checks.now) s.floor
