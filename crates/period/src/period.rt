@@ -44,6 +44,7 @@ impl Period {
     }
 
     // The period that two numbers name, unless as written they are outside the limits.
+    #[tactic(auto, using(fractions::proofs::Lowest::reduced))]
     pub fn named(numerator: u64, denominator: u64) -> Result<Period, NotAPeriod>
         ensures { Named numerator denominator result }
     {

@@ -9,8 +9,3 @@ invariant_of-result c =
     let v : Within (written c.args.numerator c.args.denominator) = record { few_units = omega arith; parted = omega arith; coarse = omega arith } in
     let made = (reduced c.args.numerator c.args.denominator c.common_divisor-common.result v c.common_divisor-common.ensures).0 in
     record { few_units = made.within.few_units; parted = made.within.parted; coarse = made.within.coarse; lowest_terms = made.lowest_terms }
-
-pub returns : goal.returns
-returns c =
-    let v : Within (written c.args.numerator c.args.denominator) = record { few_units = omega arith; parted = omega arith; coarse = omega arith } in
-    (v, (reduced c.args.numerator c.args.denominator c.common_divisor-common.result v c.common_divisor-common.ensures).1)
