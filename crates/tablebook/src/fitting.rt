@@ -12,7 +12,6 @@ fn row_fits(row: &[u32], domains: usize) -> bool
     row.len() == domains && row.iter().all(|figure| *figure <= MOST_FIGURE)
 }
 
-#[tactic(auto, using(crate::proofs::Within::table_from, crate::proofs::Within::rows_of_fit))]
 pub(crate) fn table_fits(rows: &[Vec<u32>], domains: usize) -> bool
     ensures { IsTrue result ↔ TableFits domains (map vec_items rows.now) }
 {
