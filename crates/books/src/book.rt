@@ -3,9 +3,16 @@ ghost use Rattle.std.specs.Prelude.{◌≡◌, length};
 ghost use Rattle.fractions.specs.Fraction.{AsLong};
 ghost use Rattle.checks.specs.Model.{Model, Sound};
 ghost use Rattle.period.specs.Periods.{fraction};
-ghost use Rattle.books.specs.Answers.{start_at, end_at, Needs};
+ghost use Rattle.books.specs.Answers.{ends_at, Needs};
 
 use period::Period;
+
+// The flip-flops where a check starts and ends.
+#[derive(Clone, Copy, PartialEq, Eq, Debug)]
+pub struct Ends {
+    pub start: usize,
+    pub end: usize,
+}
 
 // A kind of book gives its meaning and shows the limits and both laws of it.
 pub trait Book {
@@ -24,13 +31,9 @@ pub trait Book {
     fn floor(&self) -> Period
         ensures { AsLong (fraction result) (meaning self.now).floor };
 
-    // The flip-flop where the check at a place starts, or none beyond the last check.
-    fn start(&self, place: usize) -> Option<usize>
-        ensures { result ≡ start_at (meaning self.now) place };
-
-    // The flip-flop where it ends.
-    fn end(&self, place: usize) -> Option<usize>
-        ensures { result ≡ end_at (meaning self.now) place };
+    // The ends of the check at a place, or none beyond the last check.
+    fn ends(&self, place: usize) -> Option<Ends>
+        ensures { result ≡ ends_at (meaning self.now) place };
 
     // What it needs in these domains of its start and its end, or none beyond the last check or domain.
     fn need(&self, place: usize, start_domain: usize, end_domain: usize) -> Option<Period>

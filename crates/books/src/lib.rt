@@ -4,4 +4,4 @@
 mod book;
 pub mod limits;
 
-pub use book::Book;
+pub use book::{Book, Ends};

@@ -6,7 +6,7 @@ ghost use Rattle.tablebook.specs.Kept.{told_sound};
 
 use crate::sheet::TableCheck;
 use crate::table::TableBook;
-use books::Book;
+use books::{Book, Ends};
 use period::Period;
 
 impl TableBook {
@@ -38,12 +38,12 @@ impl Book for TableBook {
         Period::from(self.floor)
     }
 
-    fn start(&self, place: usize) -> Option<usize> {
-        Some(self.check(place)?.start)
-    }
-
-    fn end(&self, place: usize) -> Option<usize> {
-        Some(self.check(place)?.end)
+    fn ends(&self, place: usize) -> Option<Ends> {
+        let check = self.check(place)?;
+        Some(Ends {
+            start: check.start,
+            end: check.end,
+        })
     }
 
     // The figure of the check's table in the row of one domain and the column of the other.
