@@ -1,12 +1,12 @@
 -- What binding two books answers.
-use Rattle.std.specs.Prelude.{◌≡◌, ℕ, ◌+◌, ◌<◌, ◌≤◌, ◌++◌, length, None, Ok, Err, Result}
+use Rattle.std.specs.Prelude.{◌≡◌, ℕ, ◌+◌, ◌<◌, ◌≤◌, ◌++◌, length, Some, None, Ok, Err, Option, Result}
 use Rattle.std.specs.List.{slice_get}
 use Rattle.checks.specs.Limits.{most_checks}
 use Rattle.checks.specs.Model.{Model}
 use Rattle.boundbook.specs.Bound.{bound}
 use Rattle.boundbook.specs.declared.bound.Bound.{Bound}
 use Rattle.boundbook.specs.declared.bound.Side.{Side}
-use Rattle.boundbook.specs.declared.bound.Side.TheVariants.{First, Second, Beyond}
+use Rattle.boundbook.specs.declared.bound.Side.TheVariants.{First, Second}
 use Rattle.boundbook.specs.declared.bound.TooManyChecks.{TooManyChecks}
 
 abbrev pub too_many_number : ℕ
@@ -18,7 +18,7 @@ BindCall meaning other first second (Ok b) = (length (meaning first).checks + le
 BindCall meaning other first second (Err e) = (most_checks < length (meaning first).checks + length (other second).checks) × (e.first ≡ first) × (e.second ≡ second)
 
 -- the check at a place of the bound book is one of the first book, one of the second, or none
-abbrev pub Sided : Model → Model → ℕ → Side → Type 0
-Sided first second place (First at) = slice_get (bound first second).checks place ≡ slice_get first.checks at
-Sided first second place (Second at) = slice_get (bound first second).checks place ≡ slice_get second.checks at
-Sided first second place Beyond = slice_get (bound first second).checks place ≡ None
+abbrev pub Sided : Model → Model → ℕ → Option Side → Type 0
+Sided first second place (Some (First at)) = slice_get (bound first second).checks place ≡ slice_get first.checks at
+Sided first second place (Some (Second at)) = slice_get (bound first second).checks place ≡ slice_get second.checks at
+Sided first second place None = slice_get (bound first second).checks place ≡ None

@@ -48,21 +48,21 @@ min_some a b l k = omega arith
 longer_all : (P : Fraction → Type 0) (p q : Fraction) → P p → P q → P (longer p q)
 longer_all P p q x y = ⊎_elim (λ t. subst (λ c. P (cond c q p)) (sym t.0) y) (λ t. subst (λ c. P (cond c q p)) (sym t.0) x) (leb_tells (p.num * q.den) (q.num * p.den))
 
+turned : (f s : Fraction) → NotLonger f s → Shorter s f → ⊥
+turned f s l k = omega arith
+
 -- the longer of two lengths, whichever fractions say them
-pub longer_second : (p q first second : Fraction) → 0 < p.den → 0 < q.den → 0 < first.den → 0 < second.den → AsLong p first → AsLong q second → Shorter p q → AsLong q (longer first second)
-longer_second p q first second a b d e same like l =
+pub longer_second : (p q first second : Fraction) → 0 < p.den → 0 < q.den → AsLong p first → AsLong q second → NotLonger p q → AsLong q (longer first second)
+longer_second p q first second a b same like l =
     ⊎_elim
     (λ t. subst (λ c. AsLong q (cond c second first)) (sym t.0) like)
-    (λ t. absurd (turned first second (shorter_right first q second e like (shorter_left p first q d same l)) t.1))
+    (λ t. absurd (turned first second (not_longer_right first q second b like (not_longer_left p first q a same l)) t.1))
     (leb_tells (first.num * second.den) (second.num * first.den))
-  where
-    turned : (f s : Fraction) → Shorter f s → s.num * f.den < f.num * s.den → ⊥
-    turned f s l k = omega arith
 
-pub longer_first : (p q first second : Fraction) → 0 < p.den → 0 < q.den → 0 < first.den → 0 < second.den → AsLong p first → AsLong q second → NotLonger q p → AsLong p (longer first second)
-longer_first p q first second a b d e same like l =
+pub longer_first : (p q first second : Fraction) → 0 < first.den → 0 < second.den → AsLong p first → AsLong q second → Shorter q p → AsLong p (longer first second)
+longer_first p q first second a b same like l =
     ⊎_elim
-    (λ t. subst (λ c. AsLong p (cond c second first)) (sym t.0) (as_long_trans p first second d same (not_longer_antisym first second t.1 (not_longer_right second p first a same (not_longer_left q second p b like l)))))
+    (λ t. absurd (turned first second t.1 (shorter_right second p first a same (shorter_left q second p b like l))))
     (λ t. subst (λ c. AsLong p (cond c second first)) (sym t.0) same)
     (leb_tells (first.num * second.den) (second.num * first.den))
 

@@ -4,7 +4,7 @@ ghost use Rattle.boundbook.specs.Bound.{bound};
 ghost use Rattle.boundbook.specs.Binding.{BindCall, too_many_number, Sided};
 ghost use Rattle.boundbook.specs.BindingLemmas.{bound_sound};
 
-use books::Book;
+use books::{Book, Ends};
 use books::limits::MOST_CHECKS;
 use period::Period;
 
@@ -15,7 +15,8 @@ pub struct Bound<A, B> {
     pub second: B,
 }
 
-// Two books with too many checks together, handed back.
+// Two books with too many checks together, handed back. Its two fields are those of a bound book: with a `Bound` in it each caller would
+// write `books.first` for `first`.
 #[derive(Drop)]
 pub struct TooManyChecks<A, B> {
     pub first: A,
@@ -40,25 +41,26 @@ pub fn bind<A: Book, B: Book>(first: A, second: B) -> Result<Bound<A, B>, TooMan
     Ok(Bound { first, second })
 }
 
-// Which of the two books has the check at a place, and at which place of its own.
+// The book that has a check, with its place there.
 #[derive(Clone, Copy)]
 enum Side {
     First(usize),
     Second(usize),
-    Beyond,
 }
 
 impl<A: Book, B: Book> Bound<A, B> {
-    fn side(&self, place: usize) -> Side
+    // Where the check at a place stands, or none beyond the last check.
+    fn side(&self, place: usize) -> Option<Side>
         ensures { Sided (A.Book.meaning self.now.first) (B.Book.meaning self.now.second) place result }
     {
-        let count = self.first.checks();
         if place >= MOST_CHECKS {
-            Side::Beyond
-        } else if place < count {
-            Side::First(place)
+            return None;
+        }
+        let count = self.first.checks();
+        if place < count {
+            Some(Side::First(place))
         } else {
-            Side::Second(place - count)
+            Some(Side::Second(place - count))
         }
     }
 }
@@ -82,24 +84,13 @@ impl<A: Book, B: Book> Book for Bound<A, B> {
     }
 
     fn floor(&self) -> Period {
-        let first = self.first.floor();
-        let second = self.second.floor();
-        if first < second { second } else { first }
+        self.first.floor().max(self.second.floor())
     }
 
-    fn start(&self, place: usize) -> Option<usize> {
-        match self.side(place) {
-            Side::First(at) => self.first.start(at),
-            Side::Second(at) => self.second.start(at),
-            Side::Beyond => None,
-        }
-    }
-
-    fn end(&self, place: usize) -> Option<usize> {
-        match self.side(place) {
-            Side::First(at) => self.first.end(at),
-            Side::Second(at) => self.second.end(at),
-            Side::Beyond => None,
+    fn ends(&self, place: usize) -> Option<Ends> {
+        match self.side(place)? {
+            Side::First(at) => self.first.ends(at),
+            Side::Second(at) => self.second.ends(at),
         }
     }
 
@@ -109,10 +100,9 @@ impl<A: Book, B: Book> Book for Bound<A, B> {
         if start_domain >= domains || end_domain >= domains {
             return None;
         }
-        match self.side(place) {
+        match self.side(place)? {
             Side::First(at) => self.first.need(at, start_domain, end_domain),
             Side::Second(at) => self.second.need(at, start_domain, end_domain),
-            Side::Beyond => None,
         }
     }
 }

@@ -1,10 +1,16 @@
-use Rattle.period.specs.Periods.{fraction}
+use Rattle.std.proofs.Common.{◌≡◌, ◌<◌, Bool, true, false, cond, refl}
+use Rattle.std.specs.Ordering.{is_lt}
+use Rattle.fractions.specs.Fraction.{Fraction, AsLong}
+use Rattle.period.specs.declared.period.Period.{Period}
+use Rattle.period.specs.Periods.{fraction, comparison}
 use Rattle.period.proofs.Comparisons.{lt_true, lt_false}
+use Rattle.boundbook.specs.Bound.{longer}
 use Rattle.boundbook.specs.BindingLemmas.{longer_first, longer_second}
 use Rattle.boundbook.proofs.bound.BoundBook.floor.Goals as goal
 
-pub returns-then-lt : goal.returns-then-lt
-returns-then-lt g c = longer_second (fraction c.floor-first.result) (fraction c.floor-second.result) _ _ c.floor-first.result.parted c.floor-second.result.parted (g.met.A.Book.sound c.args.self.now.first).floor_within.parted (g.met.B.Book.sound c.args.self.now.second).floor_within.parted c.floor-first.ensures c.floor-second.ensures (lt_true _ _ c.lt.result c.lt.ensures c.if-lt.true)
+max_longer : (p q : Period) (first second : Fraction) (r : Bool) → r ≡ is_lt (comparison (fraction q) (fraction p)) → 0 < first.den → 0 < second.den → AsLong (fraction p) first → AsLong (fraction q) second → AsLong (fraction (cond r p q)) (longer first second)
+max_longer p q first second true is a b same like = longer_first (fraction p) (fraction q) first second a b same like (lt_true (fraction q) (fraction p) true is refl)
+max_longer p q first second false is a b same like = longer_second (fraction p) (fraction q) first second p.parted q.parted same like (lt_false (fraction q) (fraction p) false is refl)
 
-pub returns-else-lt : goal.returns-else-lt
-returns-else-lt g c = longer_first (fraction c.floor-first.result) (fraction c.floor-second.result) _ _ c.floor-first.result.parted c.floor-second.result.parted (g.met.A.Book.sound c.args.self.now.first).floor_within.parted (g.met.B.Book.sound c.args.self.now.second).floor_within.parted c.floor-first.ensures c.floor-second.ensures (lt_false _ _ c.lt.result c.lt.ensures c.if-lt.false)
+pub returns : goal.returns
+returns g c = rw c.max.ensures (max_longer c.floor.result c.floor-2.result _ _ _ refl (g.met.A.Book.sound c.args.self.now.first).floor_within.parted (g.met.B.Book.sound c.args.self.now.second).floor_within.parted c.floor.ensures c.floor-2.ensures)
