@@ -2,17 +2,15 @@
 use Rattle.std.proofs.Common.{◌≡◌, ℕ, List, length, take, replicate, ◌∙◌, arith}
 use Rattle.fractions.specs.Fraction.{Fraction, NotLonger, Shorter, AsLong, Within}
 use Rattle.fractions.proofs.Order.{not_longer_left}
-use Rattle.checks.specs.Model.{Model, Sound}
-use Rattle.checks.specs.Scheduling.{Meets, Unmeetable}
+use Rattle.checks.specs.Model.{Check, Model, Stands, Sound}
+use Rattle.checks.specs.Scheduling.{Settled, Unmeetable, need_under}
 use Rattle.checks.specs.Calls.{answered, refused, ScheduleCall, SettleCall, scheduled, settled, another_length, none_meets}
 use Rattle.checks.specs.Raises.{Settling}
 use Rattle.checks.proofs.Settling.{settling_begins, settling_floor, settled_done, settled_named, unmeetable_named}
 use Rattle.period.specs.declared.period.Period.{Period}
 use Rattle.period.specs.Periods.{fraction}
 use Rattle.period.proofs.Lengths.{is_period}
-use Rattle.engine.specs.declared.settling.Pass.TheVariants.{Met}
 use Rattle.engine.specs.Turns.{Raised}
-use Rattle.engine.specs.Passes.{Passed}
 
 pub schedule_found : {book : Model} {before after chosen : List ℕ} {flops : ℕ} (period : Period) → flops ≡ book.flops → length before ≡ flops → Raised book (fraction period) chosen → after ≡ take flops chosen → ScheduleCall book before (answered (fraction period)) after
 schedule_found {book} {before} {after} {chosen} {flops} period flops-is fits raised after_is =
@@ -46,9 +44,10 @@ pub floor_above : {book : Model} (period floor : Period) → Sound book → AsLo
 floor_above {book} period floor sound same short =
     settling_floor book (fraction period) (fraction floor) sound period.parted (is_period floor).within same short
 
-pub settle_met : {book : Model} {named : Fraction} {before list after : List ℕ} {period : Period} (floor : Period) → Fit book named before period → AsLong (fraction floor) book.floor → NotLonger (fraction floor) (fraction period) → Settling book (fraction period) list → Passed book (fraction period) list after Met → SettleCall book named before (answered (fraction period)) after
-settle_met {book} {named} {before} {list} {after} {period} floor fits same long settling (after_is, needs) = rw after_is (settled (fraction period) list fits.within fits.long (is_period period) fits.same
-    (settled_named book (fraction period) named list (is_period period).within fits.within fits.same (settled_done book (fraction period) list settling met)))
-  where
-    met : Meets book list (fraction period)
-    met = record { floor = not_longer_left (fraction floor) book.floor (fraction period) floor.parted same long; needs = needs }
+pub settle_met : {book : Model} (period floor : Period) {list : List ℕ} → AsLong (fraction floor) book.floor → NotLonger (fraction floor) (fraction period) → Settling book (fraction period) list → ((k : ℕ) (c : Check) → Stands book k c → NotLonger (need_under list c) (fraction period)) → Settled book (fraction period) list
+settle_met {book} period floor {list} same long settling needs =
+    settled_done book (fraction period) list settling (record { floor = not_longer_left (fraction floor) book.floor (fraction period) floor.parted same long; needs = needs })
+
+pub settle_answers : {book : Model} {named : Fraction} {before list : List ℕ} {period : Period} → Fit book named before period → Settled book (fraction period) list → SettleCall book named before (answered (fraction period)) list
+settle_answers {book} {named} {before} {list} {period} fits done =
+    settled (fraction period) list fits.within fits.long (is_period period) fits.same (settled_named book (fraction period) named list (is_period period).within fits.within fits.same done)

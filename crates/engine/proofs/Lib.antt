@@ -1,4 +1,4 @@
-pub mod Asked
+pub mod Needs
 pub mod Turned
 pub mod Calls
 pub mod Passing

@@ -1,68 +1,63 @@
 -- A turn of raising: the scan, and what follows it.
-use Rattle.std.proofs.Common.{◌≡◌, ℕ, ◌+◌, ◌<◌, true, false, List, length, Some, None, Option, refl, arith}
-use Rattle.fractions.specs.Fraction.{Fraction, NotLonger, Shorter}
+use Rattle.std.proofs.Common.{◌≡◌, ℕ, ◌+◌, ◌<◌, true, false, List, length, Some, None, Option, refl, inl, inr, arith}
+use Rattle.fractions.specs.Fraction.{Fraction, NotLonger}
 use Rattle.fractions.proofs.Order.{not_longer_refl}
 use Rattle.checks.specs.Model.{Model, Sound}
 use Rattle.checks.specs.Scheduling.{Meets}
 use Rattle.checks.specs.Raises.{room}
-use Rattle.checks.proofs.Raising.{Raising, Scanned, raise_falls, scan_keeps, scan_takes, scan_ends, raising_improves, worst_there, raised, done_at_floor, done_at_top}
+use Rattle.checks.proofs.Raising.{Raising, Scanned, raise_falls, scan_keeps, scan_takes, raising_improves, worst_there, raised, done_at_floor, done_at_top}
 use Rattle.period.specs.declared.period.Period.{Period}
 use Rattle.period.specs.Periods.{fraction}
 use Rattle.period.proofs.Lengths.{is_period}
-use Rattle.books.specs.Answers.{Needs}
-use Rattle.engine.specs.Turns.{Stepped, Raised}
-use Rattle.engine.proofs.Asked.{Asked, Answered, none_past}
+use Rattle.engine.specs.declared.lists.Need.{Need}
+use Rattle.engine.specs.declared.raising.Best.{Best}
+use Rattle.engine.specs.declared.raising.Worst.{Worst}
+use Rattle.engine.specs.Turns.{Covers, Needed, Risen, Worsened, Improved, Raised}
 
--- ---- the scan
+pub raising_covers : {book : Model} {current chosen : List ℕ} {shortest : Fraction} → Sound book → Raising book current chosen shortest → Covers book current
+raising_covers sound raising = record { long = omega (arith, sound.few_flops, raising.current_long); exist = raising.current_exist }
 
-pub scan_passes : {book : Model} {current : List ℕ} {place : ℕ} {worst after end : Option ℕ} {period later need : Period} → Scanned book current place (fraction period) worst → Answered book current place end need → NotLonger (fraction need) (fraction period) → later ≡ period → after ≡ worst → Scanned book current (place + 1) (fraction later) after
-scan_passes {book} {current} {place} {worst} {after} {end} {period} {later} {need} scanned answered long later-is after_is =
-    rw (later-is, after_is) (scan_keeps book current place (fraction period) worst answered.check (fraction need) scanned answered.stands (is_period need).within answered.same long)
+pub scan_more : {book : Model} {current : List ℕ} {place : ℕ} (before after : Worst) {need : Need} → Sound book → Scanned book current place (fraction before.period) before.end → Needed book current place need → Worsened before need after → Scanned book current (place + 1) (fraction after.period) after.end
+scan_more {book} {current} {place} before after {need} sound scanned needed (inl (longer, is)) =
+    rw (is, needed.at_end) (scan_takes book current place (fraction before.period) before.end needed.check (fraction need.period) sound scanned needed.stands (is_period need.period).within needed.same longer)
+scan_more {book} {current} {place} before after {need} sound scanned needed (inr (long, is)) =
+    rw is (scan_keeps book current place (fraction before.period) before.end needed.check (fraction need.period) scanned needed.stands (is_period need.period).within needed.same long)
 
-pub scan_rises : {book : Model} {current : List ℕ} {place : ℕ} {worst after end : Option ℕ} {period : Fraction} {later need : Period} → Sound book → Scanned book current place period worst → Answered book current place end need → Shorter period (fraction need) → later ≡ need → after ≡ end → Scanned book current (place + 1) (fraction later) after
-scan_rises {book} {current} {place} {worst} {after} {end} {period} {later} {need} sound scanned answered short later-is after_is =
-    rw (later-is, after_is, answered.end_is) (scan_takes book current place period worst answered.check (fraction need) sound scanned answered.stands (is_period need).within answered.same short)
+-- the best period so far is no longer than that of the current list
+pub record Turned (book : Model) (current : List ℕ) (best : Best) (period : Fraction) : Type 0 where
+  pub raising : Raising book current best.domains (fraction best.period)
+  pub no_longer : NotLonger (fraction best.period) period
 
-pub scan_met : {book : Model} {current chosen : List ℕ} {shortest period : Fraction} {place m n : ℕ} {worst end : Option ℕ} → Raising book current chosen shortest → Scanned book current place period worst → Asked book current place end m n → Needs book place m n None → Meets book current period
-scan_met {book} {current} {chosen} {shortest} {period} {place} {m} {n} {worst} {end} raising scanned asked none =
-    scan_ends book current place period worst scanned (none_past raising.current_exist asked none)
-
--- ---- after the scan
-
--- the shortest period so far is no longer than that of the current list
-pub record Turned (book : Model) (current chosen : List ℕ) (shortest period : Fraction) : Type 0 where
-  pub raising : Raising book current chosen shortest
-  pub no_longer : NotLonger shortest period
-
-pub turn_better : {book : Model} {current chosen after : List ℕ} {shortest : Fraction} {period later : Period} → Sound book → Raising book current chosen shortest → Meets book current (fraction period) → Shorter (fraction period) shortest → after ≡ current → later ≡ period → Turned book current after (fraction later) (fraction period)
-turn_better {book} {current} {chosen} {after} {shortest} {period} {later} sound raising met short after_is later-is =
-    rw (after_is, later-is) (record {
-      raising = raising_improves book current chosen shortest (fraction period) sound raising (is_period period).within met short;
-      no_longer = not_longer_refl (fraction period);
-    })
-
-pub turn_keeps : {book : Model} {current chosen after : List ℕ} {period : Fraction} {shortest later : Period} → Raising book current chosen (fraction shortest) → NotLonger (fraction shortest) period → after ≡ chosen → later ≡ shortest → Turned book current after (fraction later) period
-turn_keeps raising long after_is later-is = rw (after_is, later-is) (record { raising = raising; no_longer = long })
+pub turned : {book : Model} {current : List ℕ} (before after : Best) (period : Period) → Sound book → Raising book current before.domains (fraction before.period) → Meets book current (fraction period) → Improved before period current after → Turned book current after (fraction period)
+turned {book} {current} before after period sound raising met (inl (short, is)) = rw is (record {
+  raising = raising_improves book current before.domains (fraction before.period) (fraction period) sound raising (is_period period).within met short;
+  no_longer = not_longer_refl (fraction period);
+})
+turned before after period sound raising met (inr (long, is)) = rw is (record { raising = raising; no_longer = long })
 
 -- ---- the worst end, raised or not
 
-pub turn_falls : {book : Model} {current chosen outer after : List ℕ} {count : ℕ} {shortest : Fraction} (worst : Option ℕ) → Sound book → current ≡ outer → Raising book current chosen shortest → Stepped worst count current after true → room after < room outer
-turn_falls {book} {current} {chosen} {outer} worst sound same raising (e, is, there, left, after_is) =
-    rw (← same, after_is) (raise_falls current e (omega (arith, raising.current_long)) (λ i. omega (arith, raising.current_exist i, sound.few_domains)) there)
-
-pub turn_raises : {book : Model} {current chosen after : List ℕ} {place count : ℕ} {shortest period : Fraction} {worst : Option ℕ} → Sound book → Turned book current chosen shortest period → Scanned book current place period worst → count ≡ book.domains → Stepped worst count current after true → Raising book after chosen shortest
-turn_raises {book} {current} {chosen} {after} {place} {count} {shortest} {period} {worst} sound turned scanned count-is (e, is, there, left, after_is) =
+pub end_there : {book : Model} {current chosen : List ℕ} {place : ℕ} {shortest period : Fraction} {worst : Option ℕ} → Sound book → Raising book current chosen shortest → Scanned book current place period worst → (e : ℕ) → worst ≡ Some e → e < length current
+end_there {book} {current} {chosen} {place} {shortest} {period} {worst} sound raising scanned e is =
     let at_end : Scanned book current place period (Some e) = rw is at scanned in
-    rw after_is (raised book current chosen shortest place period e sound turned.raising turned.no_longer at_end (omega arith))
+    omega (arith, worst_there book current place period e sound at_end, sound.few_flops, raising.current_long)
 
-pub turn_ends : {book : Model} {current chosen after : List ℕ} {place count : ℕ} {shortest period : Fraction} (worst : Option ℕ) → Sound book → Turned book current chosen shortest period → Scanned book current place period worst → count ≡ book.domains → Stepped worst count current after false → Raised book shortest chosen
-turn_ends {book} {current} {chosen} {after} {place} {count} {shortest} {period} None sound turned scanned count-is (same, top) = record {
-  long = turned.raising.chosen_long;
-  scheduled = done_at_floor book current chosen shortest place period sound turned.raising turned.no_longer scanned;
+pub turn_falls : {book : Model} {current chosen : List ℕ} {place : ℕ} {shortest period : Fraction} (worst : Option ℕ) (count : ℕ) (after : List ℕ) → Sound book → Raising book current chosen shortest → Scanned book current place period worst → Risen worst count current after true → room after < room current
+turn_falls None count after sound raising scanned never = absurd never
+turn_falls {book} {current} (Some e) count after sound raising scanned (left, after_is) =
+    rw after_is (raise_falls current e (omega (arith, raising.current_long)) (λ i. omega (arith, raising.current_exist i, sound.few_domains)) (end_there sound raising scanned e refl))
+
+pub turn_raises : {book : Model} {current : List ℕ} {place count : ℕ} {period : Fraction} (best : Best) (worst : Option ℕ) (after : List ℕ) → Sound book → Turned book current best period → Scanned book current place period worst → count ≡ book.domains → Risen worst count current after true → Raising book after best.domains (fraction best.period)
+turn_raises best None after sound turn scanned count-is never = absurd never
+turn_raises {book} {current} {place} {count} {period} best (Some e) after sound turn scanned count-is (left, after_is) =
+    rw after_is (raised book current best.domains (fraction best.period) place period e sound turn.raising turn.no_longer scanned (omega arith))
+
+pub turn_ends : {book : Model} {current : List ℕ} {place count : ℕ} {period : Fraction} (best : Best) (worst : Option ℕ) (after : List ℕ) → Sound book → Turned book current best period → Scanned book current place period worst → count ≡ book.domains → Risen worst count current after false → Raised book (fraction best.period) best.domains
+turn_ends {book} {current} {place} {count} {period} best None after sound turn scanned count-is same = record {
+  long = turn.raising.chosen_long;
+  scheduled = done_at_floor book current best.domains (fraction best.period) place period sound turn.raising turn.no_longer scanned;
 }
-turn_ends {book} {current} {chosen} {after} {place} {count} {shortest} {period} (Some e) sound turned scanned count-is (same, top) =
-    let there : e < length current = omega (arith, worst_there book current place period e sound scanned, sound.few_flops, turned.raising.current_long) in
-    record {
-      long = turned.raising.chosen_long;
-      scheduled = done_at_top book current chosen shortest place period e sound turned.raising turned.no_longer scanned (omega (arith, top e refl there));
-    }
+turn_ends {book} {current} {place} {count} {period} best (Some e) after sound turn scanned count-is (same, top) = record {
+  long = turn.raising.chosen_long;
+  scheduled = done_at_top book current best.domains (fraction best.period) place period e sound turn.raising turn.no_longer scanned (omega arith);
+}

@@ -8,7 +8,7 @@ use period::NotAPeriod;
 #[derive(Clone, Copy, PartialEq, Eq, Debug)]
 pub enum ScheduleFault {
     // a domain list of another length than the number of flip-flops
-    Length,
+    Length = 14,
 }
 
 impl ScheduleFault {
@@ -16,31 +16,25 @@ impl ScheduleFault {
     pub fn number(self) -> u8
         ensures { result ≡ schedule_number self }
     {
-        match self {
-            ScheduleFault::Length => 14,
-        }
+        self as u8
     }
 }
 
 #[derive(Clone, Copy, PartialEq, Eq, Debug)]
 pub enum SettleFault {
     // two numbers that name no period
-    Period,
-    // a domain list of another length than the number of flip-flops
-    Length,
+    Period = 12,
     // no assignment meets the period
-    Unmeetable,
+    Unmeetable = 13,
+    // a domain list of another length than the number of flip-flops
+    Length = 14,
 }
 
 impl SettleFault {
     pub fn number(self) -> u8
         ensures { result ≡ settle_number self }
     {
-        match self {
-            SettleFault::Period => 12,
-            SettleFault::Length => 14,
-            SettleFault::Unmeetable => 13,
-        }
+        self as u8
     }
 }
 

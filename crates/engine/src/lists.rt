@@ -1,33 +1,37 @@
-// One domain in a list of domains.
-ghost use Rattle.std.specs.Prelude.{◌≡◌, ◌≤◌};
+// The domains of an assignment: what a check needs under them, and raising one.
+ghost use Rattle.std.specs.Prelude.{◌<◌, ◌≤◌, length};
 ghost use Rattle.checks.specs.Limits.{most_domains};
-ghost use Rattle.engine.specs.Turns.{domain_in, Stepped};
+ghost use Rattle.engine.specs.Turns.{Covers, NeededAt, Stepped};
 
-// The domain of a flip-flop, and 0 where there is none.
-pub(crate) fn domain_of(domains: &[u8], flop: Option<usize>) -> usize
-    ensures { result ≡ domain_in domains.now flop }
-{
-    let Some(number) = flop else {
-        return 0;
-    };
-    if number < domains.len() {
-        domains[number] as usize
-    } else {
-        0
-    }
+use books::{Book, Ends};
+use period::Period;
+
+// What a check needs under an assignment, unless its end rises.
+#[derive(Clone, Copy)]
+pub(crate) struct Need {
+    pub(crate) period: Period,
+    pub(crate) end: usize,
 }
 
-// Raises the domain of a flip-flop by one, unless there is none or it is in the last of `count` domains; says whether it did.
-pub(crate) fn step_up(domains: &mut [u8], flop: Option<usize>, count: usize) -> bool
-    requires { count ≤ most_domains }
+// The need of the check at a place, or none beyond the last check.
+pub(crate) fn need_under<B: Book>(book: &B, place: usize, domains: &[u8]) -> Option<Need>
+    requires { Covers (B.meaning book.now) domains.now }
+    ensures { NeededAt (B.meaning book.now) domains.now place result }
+{
+    let Ends { start, end } = book.ends(place)?;
+    let period = book.need(place, domains[start] as usize, domains[end] as usize)?;
+    Some(Need { period, end })
+}
+
+// Raises the domain of a flip-flop by one, unless it is in the last of `count` domains; says whether it did.
+pub(crate) fn step_up(domains: &mut [u8], flop: usize, count: usize) -> bool
+    requires there { flop < length domains.old }
+    requires few { count ≤ most_domains }
     ensures { Stepped flop count domains.old domains.new result }
 {
-    let Some(number) = flop else {
-        return false;
-    };
-    if number >= domains.len() || domains[number] as usize + 1 >= count {
-        return false;
+    let higher = domains[flop] as usize + 1 < count;
+    if higher {
+        domains[flop] += 1;
     }
-    domains[number] += 1;
-    true
+    higher
 }

@@ -2,10 +2,13 @@
 ghost use Rattle.checks.specs.Calls.{ScheduleCall};
 ghost use Rattle.period.specs.Periods.{fraction};
 ghost use Rattle.engine.specs.Answers.{schedule_answer};
-ghost use Rattle.engine.specs.Turns.{Raised};
+ghost use Rattle.std.specs.Prelude.{◌<◌, ◌≤◌, length};
+ghost use Rattle.std.specs.Option.{ForSome};
+ghost use Rattle.checks.specs.Limits.{most_domains};
+ghost use Rattle.engine.specs.Turns.{Improved, Raised, Risen, Worsened};
 
 use crate::faults::ScheduleFault;
-use crate::lists::{domain_of, step_up};
+use crate::lists::{Need, need_under, step_up};
 use books::Book;
 use books::limits::MOST_FLOPS;
 use period::Period;
@@ -18,43 +21,86 @@ pub fn schedule<B: Book>(book: &B, domains: &mut [u8]) -> Result<Period, Schedul
     if domains.len() != flops {
         return Err(ScheduleFault::Length);
     }
-    let (period, chosen) = raise(book);
-    domains.copy_from_slice(&chosen[..flops]);
-    Ok(period)
+    let best = raise(book);
+    domains.copy_from_slice(&best.domains[..flops]);
+    Ok(best.period)
+}
+
+// A period with an assignment that meets it, and domain 0 past the last flip-flop.
+#[derive(Clone, Copy)]
+struct Best {
+    period: Period,
+    domains: [u8; MOST_FLOPS],
+}
+
+impl Best {
+    // Takes an assignment of a shorter period.
+    fn improve(&mut self, period: Period, domains: &[u8; MOST_FLOPS])
+        ensures { Improved self.old period domains.now self.new }
+    {
+        if period < self.period {
+            *self = Best {
+                period,
+                domains: *domains,
+            };
+        }
+    }
+}
+
+// The longest of the floor and some needs, with the end of a check that needs so long, or none where the floor is as long.
+#[derive(Clone, Copy)]
+struct Worst {
+    period: Period,
+    end: Option<usize>,
+}
+
+impl Worst {
+    // Takes a need that is longer.
+    fn meet(&mut self, need: Need)
+        ensures { Worsened self.old need self.new }
+    {
+        if need.period > self.period {
+            *self = Worst {
+                period: need.period,
+                end: Some(need.end),
+            };
+        }
+    }
+
+    // Raises the domain of the end by one, unless there is none or it is in the last of `count` domains; says whether it did.
+    fn rise(self, domains: &mut [u8], count: usize) -> bool
+        requires there { ForSome self.end (λ e. e < length domains.old) }
+        requires few { count ≤ most_domains }
+        ensures { Risen self.end count domains.old domains.new result }
+    {
+        match self.end {
+            Some(end) => step_up(domains, end, count),
+            None => false,
+        }
+    }
 }
 
 // From all zeros the end of a worst check is raised, as long as it can be; the first assignment of the shortest period stays.
-fn raise<B: Book>(book: &B) -> (Period, [u8; MOST_FLOPS])
-    ensures { Raised (B.meaning book.now) (fraction result.0) result.1 }
+fn raise<B: Book>(book: &B) -> Best
+    ensures { Raised (B.meaning book.now) (fraction result.period) result.domains }
 {
-    let floor = book.floor();
-    let count = book.domains();
     let mut current = [0; MOST_FLOPS];
-    let mut chosen = current;
-    let mut shortest = Period::longest();
+    let mut best = Best {
+        period: Period::longest(),
+        domains: current,
+    };
     'raise: loop {
-        let mut period = floor;
-        let mut worst = None;
-        let mut place = 0;
-        loop {
-            let start = book.start(place);
-            let end = book.end(place);
-            match book.need(place, domain_of(&current, start), domain_of(&current, end)) {
-                Some(need) => {
-                    if need > period {
-                        period = need;
-                        worst = end;
-                    }
-                    place += 1;
-                }
+        let mut worst = Worst {
+            period: book.floor(),
+            end: None,
+        };
+        for place in 0..=book.checks() {
+            match need_under(book, place, &current) {
+                Some(need) => worst.meet(need),
                 None => {
-                    let better = period < shortest;
-                    if better {
-                        shortest = period;
-                        chosen = current;
-                    }
-                    if !step_up(&mut current, worst, count) {
-                        break 'raise (shortest, chosen);
+                    best.improve(worst.period, &current);
+                    if !worst.rise(&mut current, book.domains()) {
+                        break 'raise best;
                     }
                     continue 'raise;
                 }

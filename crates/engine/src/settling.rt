@@ -3,23 +3,12 @@ ghost use Rattle.checks.specs.Calls.{SettleCall};
 ghost use Rattle.checks.specs.Raises.{Settling};
 ghost use Rattle.period.specs.Periods.{fraction, written};
 ghost use Rattle.engine.specs.Answers.{settle_answer};
-ghost use Rattle.engine.specs.Passes.{Passed};
+ghost use Rattle.engine.specs.Passes.{Passed, Tried};
 
 use crate::faults::SettleFault;
-use crate::lists::{domain_of, step_up};
+use crate::lists::{need_under, step_up};
 use books::Book;
 use period::Period;
-
-// What a pass over all checks does to the domains.
-#[derive(Clone, Copy)]
-enum Pass {
-    // no check is above the period
-    Met,
-    // some ends are one domain higher
-    Raised,
-    // an end that has to rise is in the last domain
-    Stuck,
-}
 
 // The period that two numbers name, with the lowest assignment that meets it in the list; all zeros where none meets it. A list of another
 // length than the number of flip-flops stays as it was.
@@ -36,43 +25,44 @@ pub fn settle<B: Book>(
         return Err(SettleFault::Length);
     }
     domains.fill(0);
-    if book.floor() > period {
-        return Err(SettleFault::Unmeetable);
-    }
-    loop {
-        match walk(book, period, domains) {
-            Pass::Met => return Ok(period),
-            Pass::Raised => {}
-            Pass::Stuck => {
-                domains.fill(0);
-                return Err(SettleFault::Unmeetable);
-            }
+    match meet(book, period, domains) {
+        Ok(()) => Ok(period),
+        Err(fault) => {
+            domains.fill(0);
+            Err(fault)
         }
     }
 }
 
-// One pass: each check above the period raises its end.
-fn walk<B: Book>(book: &B, period: Period, domains: &mut [u8]) -> Pass
+// From all zeros, passes until no check is above the period.
+fn meet<B: Book>(book: &B, period: Period, domains: &mut [u8]) -> Result<(), SettleFault>
+    requires { Settling (B.meaning book.now) (fraction period) domains.old }
+    ensures { Tried (B.meaning book.now) (fraction period) domains.new result }
+{
+    if book.floor() > period {
+        return Err(SettleFault::Unmeetable);
+    }
+    while pass(book, period, domains)? {}
+    Ok(())
+}
+
+// One pass: each check above the period raises its end. Says whether there was one.
+fn pass<B: Book>(book: &B, period: Period, domains: &mut [u8]) -> Result<bool, SettleFault>
     requires { Settling (B.meaning book.now) (fraction period) domains.old }
     ensures { Passed (B.meaning book.now) (fraction period) domains.old domains.new result }
 {
     let count = book.domains();
-    let mut found = Pass::Met;
-    let mut place = 0;
-    loop {
-        let start = book.start(place);
-        let end = book.end(place);
-        match book.need(place, domain_of(domains, start), domain_of(domains, end)) {
-            Some(need) => {
-                if need > period {
-                    if !step_up(domains, end, count) {
-                        return Pass::Stuck;
-                    }
-                    found = Pass::Raised;
-                }
-                place += 1;
+    let mut raised = false;
+    for place in 0..book.checks() {
+        let Some(need) = need_under(book, place, domains) else {
+            break;
+        };
+        if need.period > period {
+            if !step_up(domains, need.end, count) {
+                return Err(SettleFault::Unmeetable);
             }
-            None => return found,
+            raised = true;
         }
     }
+    Ok(raised)
 }

@@ -7,5 +7,5 @@ returns-then-domains-flops g c = schedule_unfit c.flops-flops.ensures c.if-domai
 
 pub returns : goal.returns
 returns g c =
-    let cut : c.copy_from_slice.new.self ≡ take c.flops-flops.result c.raise.result.1 = search rules in
-    schedule_found c.raise.result.0 c.flops-flops.ensures c.if-domains-flops.false c.raise.ensures cut
+    let cut : c.copy_from_slice.new.self ≡ take c.flops-flops.result c.raise-best.result.domains = search rules in
+    schedule_found c.raise-best.result.period c.flops-flops.ensures c.if-domains-flops.false c.raise-best.ensures cut
