@@ -12,8 +12,8 @@ ghost use Rattle.period.specs.Periods.{fraction};
 ghost use Rattle.booktrials.specs.Chain.{chain, Outside};
 ghost use Rattle.booktrials.specs.Links.{chain_sound};
 
-use books::Book;
 use books::limits::{MOST_DOMAINS, MOST_FLOPS};
+use books::{Book, Ends};
 use period::Period;
 
 // One check from each flip-flop to the next, with the same need in all domains.
@@ -46,7 +46,7 @@ impl ConstantBook {
     fn links(&self) -> usize
         ensures { result ≡ self.now.flops - 1 }
     {
-        if self.flops == 0 { 0 } else { self.flops - 1 }
+        self.flops.saturating_sub(1)
     }
 }
 
@@ -71,17 +71,12 @@ impl Book for ConstantBook {
         Period::zero()
     }
 
-    fn start(&self, place: usize) -> Option<usize> {
+    fn ends(&self, place: usize) -> Option<Ends> {
         if place < self.links() {
-            Some(place)
-        } else {
-            None
-        }
-    }
-
-    fn end(&self, place: usize) -> Option<usize> {
-        if place < self.links() {
-            Some(place + 1)
+            Some(Ends {
+                start: place,
+                end: place + 1,
+            })
         } else {
             None
         }

@@ -1,5 +1,5 @@
 // Sheets as the tables of trials write them, and the table books that hold them.
-use books::Book;
+use books::{Book, Ends};
 use period::Period;
 use std::alloc::{AllocError, Global};
 use std::process::Abort;
@@ -153,13 +153,13 @@ pub type Reading = (
 );
 
 pub fn check_readings<B: Book>(rt: &impl Abort, book: &B, readings: &[Reading]) {
-    for reading in readings {
-        let (place, start, end, (m, n), need) = *reading;
+    for (place, start, end, (m, n), need) in readings {
+        let ends = book.ends(*place);
         let found = (
-            book.start(place),
-            book.end(place),
-            need_of(book, place, m, n),
+            ends.map(|ends| ends.start),
+            ends.map(|ends| ends.end),
+            need_of(book, *place, *m, *n),
         );
-        assert_eq!(rt; found, (start, end, need), "{}", place);
+        assert_eq!(rt; found, (*start, *end, *need), "{}", *place);
     }
 }
