@@ -7,17 +7,16 @@
 mod numbers;
 mod reports;
 
-use crate::numbers::{Case, Numbers};
+use crate::numbers::{Case, FromNumbers, Numbers};
 use crate::reports::report_case;
 use std::io::Read;
 
 fn run(rt: &HostRuntime) -> anyhow::Result<()> {
     let heap = rt.alloc();
-    let mut input = Vec::new(heap);
-    rt.stdin().read_to_end(&mut input)?;
-    let mut numbers = Numbers::new(input.as_slice());
-    let count = numbers.count();
-    for _ in 0..count {
+    let mut input = String::new(heap);
+    rt.stdin().read_to_string(&mut input)?;
+    let mut numbers = Numbers::new(input.as_str());
+    for _ in 0..numbers.number() {
         let case = Case::read(&mut numbers, heap)?;
         report_case(rt, heap, &case)?;
     }

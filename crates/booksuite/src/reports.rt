@@ -18,19 +18,26 @@ fn print_list(rt: &HostRuntime, list: &[u8]) -> anyhow::Result<()> {
     Ok(())
 }
 
+// What a call answers, a period or the number of a refusal, and the list after it.
+fn print_answer(
+    rt: &HostRuntime,
+    call: &str,
+    answer: Result<Period, u8>,
+    list: &[u8],
+) -> anyhow::Result<()> {
+    match answer {
+        Ok(period) => print!(rt; "{call} {period}")?,
+        Err(number) => print!(rt; "{call} refused {number}")?,
+    }
+    print_list(rt, list)
+}
+
 fn print_schedule(
     rt: &HostRuntime,
     answer: Result<Period, ScheduleFault>,
     list: &[u8],
 ) -> anyhow::Result<()> {
-    match answer {
-        Ok(period) => print!(rt; "schedule {period}")?,
-        Err(fault) => {
-            let number = fault.number();
-            print!(rt; "schedule refused {number}")?;
-        }
-    }
-    print_list(rt, list)
+    print_answer(rt, "schedule", answer.map_err(|fault| fault.number()), list)
 }
 
 fn print_settlement(
@@ -38,14 +45,7 @@ fn print_settlement(
     answer: Result<Period, SettleFault>,
     list: &[u8],
 ) -> anyhow::Result<()> {
-    match answer {
-        Ok(period) => print!(rt; "settle {period}")?,
-        Err(fault) => {
-            let number = fault.number();
-            print!(rt; "settle refused {number}")?;
-        }
-    }
-    print_list(rt, list)
+    print_answer(rt, "settle", answer.map_err(|fault| fault.number()), list)
 }
 
 fn report_books<A: Book, B: Book>(
@@ -60,8 +60,7 @@ fn report_books<A: Book, B: Book>(
     let (answer, again) = schedule_both(first, second, one.as_mut_slice(), other.as_mut_slice());
     print_schedule(rt, answer, one.as_slice())?;
     print_schedule(rt, again, other.as_slice())?;
-    for k in 0..periods.len() {
-        let (numerator, denominator) = periods[k];
+    for &(numerator, denominator) in periods {
         one.as_mut_slice().fill(UNTOUCHED);
         other.as_mut_slice().fill(UNTOUCHED);
         let (answer, again) = settle_both(

@@ -7,7 +7,7 @@ use Rattle.std.proofs.lemmas.Bool.{cases_lt}
 use Rattle.std.proofs.lemmas.Bool.Decides.{leb_tells}
 use Rattle.std.proofs.lemmas.List.{length-append, length-take, take_all}
 use Rattle.fractions.specs.Fraction.{Fraction, NotLonger, Shorter, AsLong, Within}
-use Rattle.fractions.proofs.Order.{not_longer_antisym, as_long_trans, not_longer_left, not_longer_right, shorter_left, shorter_right}
+use Rattle.fractions.proofs.Order.{not_longer_left, not_longer_right, shorter_left, shorter_right}
 use Rattle.checks.specs.Limits.{most_flops, most_domains, most_checks}
 use Rattle.checks.specs.Model.{Check, Model, Stands, SoundCheck, Sound}
 use Rattle.boundbook.specs.Bound.{longer, bound}

@@ -4,8 +4,8 @@ ghost use Rattle.boundbook.specs.Bound.{bound};
 ghost use Rattle.boundbook.specs.Binding.{BindCall, too_many_number, Sided};
 ghost use Rattle.boundbook.specs.BindingLemmas.{bound_sound};
 
-use books::{Book, Ends};
 use books::limits::MOST_CHECKS;
+use books::{Book, Ends};
 use period::Period;
 
 // The checks of the first book, then those of the second.

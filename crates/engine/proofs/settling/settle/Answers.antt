@@ -1,4 +1,4 @@
-use Rattle.std.proofs.Common.{◌≡◌, length, replicate, refl, rules}
+use Rattle.std.proofs.Common.{◌≡◌, length, replicate, rules}
 use Rattle.std.proofs.lemmas.Result.{err_from_is_err_and}
 use Rattle.checks.specs.Calls.{not_a_period}
 use Rattle.engine.proofs.Calls.{fit, settle_unfit, settle_begins, settle_never, settle_answers}
