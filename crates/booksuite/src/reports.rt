@@ -32,22 +32,6 @@ fn print_answer(
     print_list(rt, list)
 }
 
-fn print_schedule(
-    rt: &HostRuntime,
-    answer: Result<Period, ScheduleFault>,
-    list: &[u8],
-) -> anyhow::Result<()> {
-    print_answer(rt, "schedule", answer.map_err(|fault| fault.number()), list)
-}
-
-fn print_settlement(
-    rt: &HostRuntime,
-    answer: Result<Period, SettleFault>,
-    list: &[u8],
-) -> anyhow::Result<()> {
-    print_answer(rt, "settle", answer.map_err(|fault| fault.number()), list)
-}
-
 fn report_books<A: Book, B: Book>(
     rt: &HostRuntime,
     heap: Global,
@@ -58,8 +42,18 @@ fn report_books<A: Book, B: Book>(
     let mut one = vec![in heap; UNTOUCHED; first.flops()]?;
     let mut other = vec![in heap; UNTOUCHED; second.flops()]?;
     let (answer, again) = schedule_both(first, second, one.as_mut_slice(), other.as_mut_slice());
-    print_schedule(rt, answer, one.as_slice())?;
-    print_schedule(rt, again, other.as_slice())?;
+    print_answer(
+        rt,
+        "schedule",
+        answer.map_err(ScheduleFault::number),
+        one.as_slice(),
+    )?;
+    print_answer(
+        rt,
+        "schedule",
+        again.map_err(ScheduleFault::number),
+        other.as_slice(),
+    )?;
     for &(numerator, denominator) in periods {
         one.as_mut_slice().fill(UNTOUCHED);
         other.as_mut_slice().fill(UNTOUCHED);
@@ -71,8 +65,18 @@ fn report_books<A: Book, B: Book>(
             one.as_mut_slice(),
             other.as_mut_slice(),
         );
-        print_settlement(rt, answer, one.as_slice())?;
-        print_settlement(rt, again, other.as_slice())?;
+        print_answer(
+            rt,
+            "settle",
+            answer.map_err(SettleFault::number),
+            one.as_slice(),
+        )?;
+        print_answer(
+            rt,
+            "settle",
+            again.map_err(SettleFault::number),
+            other.as_slice(),
+        )?;
     }
     Ok(())
 }
