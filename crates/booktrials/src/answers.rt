@@ -2,7 +2,6 @@
 use crate::drafts::numbers;
 use books::Book;
 use engine::{ScheduleFault, SettleFault, schedule, settle};
-use period::Period;
 use std::alloc::Global;
 use std::process::Abort;
 use std::test::Fail;
@@ -16,20 +15,6 @@ pub const BEFORE: u8 = 9;
 // The two numbers that name a period, the answer of settling at it and the list after it, which is as long as the list before it.
 pub type Settlement = (u64, u64, Answer, &'static [u8]);
 
-pub fn schedule_number(res: Result<Period, ScheduleFault>) -> Answer {
-    match res {
-        Ok(period) => Ok(numbers(period)),
-        Err(fault) => Err(fault.number()),
-    }
-}
-
-pub fn settle_number(res: Result<Period, SettleFault>) -> Answer {
-    match res {
-        Ok(period) => Ok(numbers(period)),
-        Err(fault) => Err(fault.number()),
-    }
-}
-
 // Schedules with a list as long as the one that is to come out; what fails is told by the name.
 pub fn check_schedule<B: Book>(
     rt: &impl Abort,
@@ -40,7 +25,9 @@ pub fn check_schedule<B: Book>(
     after: &[u8],
 ) -> Result<(), Fail> {
     let mut list = vec![in heap; BEFORE; after.len()]?;
-    let found = schedule_number(schedule(book, list.as_mut_slice()));
+    let found = schedule(book, list.as_mut_slice())
+        .map(numbers)
+        .map_err(ScheduleFault::number);
     assert_eq!(rt; (found, list.as_slice()), (answer, after), "{name}");
     Ok(())
 }
@@ -55,7 +42,9 @@ fn check_settlement<B: Book>(
 ) -> Result<(), Fail> {
     let (numerator, denominator, answer, after) = *case;
     let mut list = vec![in heap; BEFORE; after.len()]?;
-    let found = settle_number(settle(book, numerator, denominator, list.as_mut_slice()));
+    let found = settle(book, numerator, denominator, list.as_mut_slice())
+        .map(numbers)
+        .map_err(SettleFault::number);
     assert_eq!(rt;
         (found, list.as_slice()),
         (answer, after),

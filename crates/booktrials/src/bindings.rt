@@ -1,12 +1,10 @@
 // Books bound into one: what the bound book answers, how many checks two books may have, and that the same checks spread over two books get the same.
-use crate::answers::{
-    Answer, BEFORE, Settlement, check_answers, check_schedule, schedule_number, settle_number,
-};
+use crate::answers::{Answer, BEFORE, Settlement, check_answers, check_schedule};
 use crate::cases::{THREE, TWO};
-use crate::drafts::{Draft, Reading, check_counts, check_readings, filled, repeated};
+use crate::drafts::{Draft, Reading, check_counts, check_readings, filled, numbers, repeated};
 use books::Book;
 use boundbook::{Bound, TooManyChecks, bind};
-use engine::{schedule_both, settle_both};
+use engine::{ScheduleFault, SettleFault, schedule_both, settle_both};
 use std::alloc::Global;
 use std::process::Abort;
 use std::test::Fail;
@@ -75,10 +73,7 @@ fn bound_drafts(
 ) -> Result<Bound<TableBook, TableBook>, Fail> {
     let one = filled(heap, first, false)?;
     let other = filled(heap, second, false)?;
-    match bind(one, other) {
-        Ok(book) => Ok(book),
-        Err(_) => Err(Fail::new("too many checks")),
-    }
+    bind(one, other).map_err(|_| Fail::new("too many checks"))
 }
 
 fn check_joined<B: Book>(
@@ -198,7 +193,12 @@ fn check_both_settled<A: Book, B: Book>(rt: &impl Abort, first: &A, second: &B, 
     let mut one = [BEFORE; 4];
     let mut other = [BEFORE; 4];
     let (here, there) = settle_both(first, second, numerator, denominator, &mut one, &mut other);
-    let found = (settle_number(here), settle_number(there), one, other);
+    let found = (
+        here.map(numbers).map_err(SettleFault::number),
+        there.map(numbers).map_err(SettleFault::number),
+        one,
+        other,
+    );
     assert_eq!(rt; found, (answer, answer, after, after), "{numerator}");
 }
 
@@ -206,7 +206,12 @@ fn check_both_scheduled<A: Book, B: Book>(rt: &impl Abort, first: &A, second: &B
     let mut one = [BEFORE; 4];
     let mut other = [BEFORE; 4];
     let (here, there) = schedule_both(first, second, &mut one, &mut other);
-    let found = (schedule_number(here), schedule_number(there), one, other);
+    let found = (
+        here.map(numbers).map_err(ScheduleFault::number),
+        there.map(numbers).map_err(ScheduleFault::number),
+        one,
+        other,
+    );
     assert_eq!(rt; found, (Ok((7, 1)), Ok((7, 1)), [0, 2, 2, 2], [0, 2, 2, 2]));
 }
 

@@ -21,8 +21,10 @@ pub struct Draft {
     pub entries: &'static [Entry],
 }
 
-// What stands for a sheet that is not refused.
-pub const FILLED: u8 = 0;
+// Filled, or the number of a refusal.
+pub type Filling = Result<(), u8>;
+
+pub const FILLED: Filling = Ok(());
 
 fn rows_of(heap: Global, table: Table) -> Result<Vec<Vec<u32>>, AllocError> {
     let mut rows = Vec::new(heap);
@@ -41,33 +43,34 @@ pub fn tables_of(heap: Global, drafts: &[Table]) -> Result<Vec<Vec<Vec<u32>>>, A
 }
 
 fn checks_of(heap: Global, entries: &[Entry], turned: bool) -> Result<Vec<TableCheck>, AllocError> {
-    let mut checks = Vec::new(heap);
-    for (start, end, table) in entries {
-        checks.push(TableCheck {
-            start: *start,
-            end: *end,
-            table: *table,
-        })?;
-    }
+    let mut checks: Vec<TableCheck> = entries
+        .iter()
+        .map(|&(start, end, table)| TableCheck { start, end, table })
+        .collect(heap)?;
     if turned {
         checks.reverse();
     }
     Ok(checks)
 }
 
-// Fills a book with a sheet and tells the number of the refusal.
-pub fn fill_sheet(heap: Global, book: &mut TableBook, sheet: Sheet<'_>) -> Result<u8, Fail> {
+// Fills a book with a sheet.
+pub fn fill_sheet(heap: Global, book: &mut TableBook, sheet: Sheet<'_>) -> Result<Filling, Fail> {
     match book.fill(sheet, heap) {
         Ok(()) => Ok(FILLED),
         Err(fault) => match fault.number() {
-            Some(number) => Ok(number),
+            Some(number) => Ok(Err(number)),
             None => Err(Fail::new("no memory")),
         },
     }
 }
 
 // Fills a book with a draft, its checks from first to last or from last to first.
-pub fn fill(heap: Global, book: &mut TableBook, draft: Draft, turned: bool) -> Result<u8, Fail> {
+pub fn fill(
+    heap: Global,
+    book: &mut TableBook,
+    draft: Draft,
+    turned: bool,
+) -> Result<Filling, Fail> {
     let tables = tables_of(heap, draft.tables)?;
     let checks = checks_of(heap, draft.entries, turned)?;
     let sheet = Sheet {
@@ -84,13 +87,13 @@ pub fn fill(heap: Global, book: &mut TableBook, draft: Draft, turned: bool) -> R
 pub fn filled(heap: Global, draft: Draft, turned: bool) -> Result<TableBook, Fail> {
     let mut book = TableBook::new(heap);
     match fill(heap, &mut book, draft, turned)? {
-        FILLED => Ok(book),
-        _ => Err(Fail::new("refused")),
+        Ok(()) => Ok(book),
+        Err(_) => Err(Fail::new("refused")),
     }
 }
 
 // Fills a book with so many checks from flip-flop 0 to flip-flop 1, all with the table 10 4 / 12 10.
-pub fn fill_repeated(heap: Global, book: &mut TableBook, count: usize) -> Result<u8, Fail> {
+pub fn fill_repeated(heap: Global, book: &mut TableBook, count: usize) -> Result<Filling, Fail> {
     let tables = tables_of(heap, &[&[&[10, 4], &[12, 10]]])?;
     let check = TableCheck {
         start: 0,
@@ -112,8 +115,8 @@ pub fn fill_repeated(heap: Global, book: &mut TableBook, count: usize) -> Result
 pub fn repeated(heap: Global, count: usize) -> Result<TableBook, Fail> {
     let mut book = TableBook::new(heap);
     match fill_repeated(heap, &mut book, count)? {
-        FILLED => Ok(book),
-        _ => Err(Fail::new("refused")),
+        Ok(()) => Ok(book),
+        Err(_) => Err(Fail::new("refused")),
     }
 }
 

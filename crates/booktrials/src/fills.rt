@@ -1,15 +1,17 @@
 // Sheets at the limits of a table book, one past them, and with tables that break a law. A book that refuses a sheet stays as it was.
 use crate::answers::check_schedule;
 use crate::cases::{PAIR, TWO};
-use crate::drafts::{Draft, FILLED, Table, check_counts, fill, fill_repeated, filled, repeated};
+use crate::drafts::{
+    Draft, FILLED, Filling, Table, check_counts, fill, fill_repeated, filled, repeated,
+};
 use books::Book;
 use std::alloc::Global;
 use std::process::Abort;
 use std::test::Fail;
 use tablebook::TableBook;
 
-// A name, a sheet and the number of its refusal.
-type Case = (&'static str, Draft, u8);
+// A name, a sheet and what filling a book with it answers.
+type Case = (&'static str, Draft, Filling);
 
 const BARE: Draft = Draft {
     tables: &[],
@@ -26,16 +28,16 @@ pub const EIGHT: Table = &[ROW, ROW, ROW, ROW, ROW, ROW, ROW, ROW];
 const COUNTS: &[Case] = &[
     ("no flip-flop", Draft { flops: 0, ..BARE }, FILLED),
     ("256 flip-flops", Draft { flops: 256, ..BARE }, FILLED),
-    ("257 flip-flops", Draft { flops: 257, ..BARE }, 17),
+    ("257 flip-flops", Draft { flops: 257, ..BARE }, Err(17)),
     (
         "flip-flops without end",
         Draft {
             flops: usize::MAX,
             ..BARE
         },
-        17,
+        Err(17),
     ),
-    ("no domain", Draft { domains: 0, ..BARE }, 17),
+    ("no domain", Draft { domains: 0, ..BARE }, Err(17)),
     ("1 domain", Draft { domains: 1, ..BARE }, FILLED),
     ("8 domains", Draft { domains: 8, ..BARE }, FILLED),
     (
@@ -47,7 +49,7 @@ const COUNTS: &[Case] = &[
         },
         FILLED,
     ),
-    ("9 domains", Draft { domains: 9, ..BARE }, 17),
+    ("9 domains", Draft { domains: 9, ..BARE }, Err(17)),
     (
         "the largest floor",
         Draft {
@@ -62,7 +64,7 @@ const COUNTS: &[Case] = &[
             floor: 1_000_000_001,
             ..BARE
         },
-        17,
+        Err(17),
     ),
 ];
 
@@ -74,7 +76,7 @@ const TABLES: &[Case] = &[
             tables: &[&[&[10, 4], &[12, 10], &[12, 10]]],
             ..PAIR
         },
-        17,
+        Err(17),
     ),
     (
         "a row too few",
@@ -82,7 +84,7 @@ const TABLES: &[Case] = &[
             tables: &[&[&[10, 4]]],
             ..PAIR
         },
-        17,
+        Err(17),
     ),
     (
         "no row",
@@ -90,7 +92,7 @@ const TABLES: &[Case] = &[
             tables: &[&[]],
             ..PAIR
         },
-        17,
+        Err(17),
     ),
     (
         "a column too many",
@@ -98,7 +100,7 @@ const TABLES: &[Case] = &[
             tables: &[&[&[10, 4], &[12, 10, 10]]],
             ..PAIR
         },
-        17,
+        Err(17),
     ),
     (
         "a column too few",
@@ -106,7 +108,7 @@ const TABLES: &[Case] = &[
             tables: &[&[&[10, 4], &[12]]],
             ..PAIR
         },
-        17,
+        Err(17),
     ),
     (
         "the second table of another size",
@@ -114,7 +116,7 @@ const TABLES: &[Case] = &[
             tables: &[TWO, &[&[1]]],
             ..PAIR
         },
-        17,
+        Err(17),
     ),
     (
         "the largest figure",
@@ -130,7 +132,7 @@ const TABLES: &[Case] = &[
             tables: &[&[&[10, 4], &[1_000_000_001, 10]]],
             ..PAIR
         },
-        17,
+        Err(17),
     ),
 ];
 
@@ -150,7 +152,7 @@ const ENTRIES: &[Case] = &[
             entries: &[(0, 1, 0), (2, 1, 0)],
             ..PAIR
         },
-        17,
+        Err(17),
     ),
     (
         "no such end",
@@ -158,7 +160,7 @@ const ENTRIES: &[Case] = &[
             entries: &[(0, 1, 0), (0, 2, 0)],
             ..PAIR
         },
-        17,
+        Err(17),
     ),
     (
         "no such table",
@@ -166,7 +168,7 @@ const ENTRIES: &[Case] = &[
             entries: &[(0, 1, 0), (0, 1, 1)],
             ..PAIR
         },
-        17,
+        Err(17),
     ),
     (
         "no table",
@@ -174,9 +176,9 @@ const ENTRIES: &[Case] = &[
             tables: &[],
             ..PAIR
         },
-        17,
+        Err(17),
     ),
-    ("no flip-flop", Draft { flops: 0, ..PAIR }, 17),
+    ("no flip-flop", Draft { flops: 0, ..PAIR }, Err(17)),
 ];
 
 // 17 comes before 18.
@@ -187,7 +189,7 @@ const LAWS: &[Case] = &[
             tables: &[&[&[10, 11], &[12, 12]]],
             ..PAIR
         },
-        18,
+        Err(18),
     ),
     (
         "the last row rises",
@@ -195,7 +197,7 @@ const LAWS: &[Case] = &[
             tables: &[&[&[10, 10], &[12, 13]]],
             ..PAIR
         },
-        18,
+        Err(18),
     ),
     (
         "a column falls",
@@ -203,7 +205,7 @@ const LAWS: &[Case] = &[
             tables: &[&[&[10, 4], &[9, 4]]],
             ..PAIR
         },
-        18,
+        Err(18),
     ),
     (
         "the last column falls",
@@ -211,7 +213,7 @@ const LAWS: &[Case] = &[
             tables: &[&[&[10, 4], &[10, 3]]],
             ..PAIR
         },
-        18,
+        Err(18),
     ),
     (
         "a table that no check names",
@@ -219,7 +221,7 @@ const LAWS: &[Case] = &[
             tables: &[TWO, &[&[10, 11], &[12, 12]]],
             ..PAIR
         },
-        18,
+        Err(18),
     ),
     (
         "all figures equal",
@@ -236,7 +238,7 @@ const LAWS: &[Case] = &[
             tables: &[&[&[10, 11], &[12, 12]]],
             ..PAIR
         },
-        17,
+        Err(17),
     ),
     (
         "a row rises and a check names no table",
@@ -245,7 +247,7 @@ const LAWS: &[Case] = &[
             entries: &[(0, 1, 1)],
             ..PAIR
         },
-        17,
+        Err(17),
     ),
     (
         "a row rises and the next table is too small",
@@ -253,7 +255,7 @@ const LAWS: &[Case] = &[
             tables: &[&[&[10, 11], &[12, 12]], &[&[1]]],
             ..PAIR
         },
-        17,
+        Err(17),
     ),
 ];
 
@@ -261,10 +263,10 @@ const LAWS: &[Case] = &[
 const HELD: Draft = Draft { floor: 3, ..PAIR };
 
 fn check_fill(rt: &impl Abort, heap: Global, case: &Case) -> Result<(), Fail> {
-    let (name, draft, number) = *case;
+    let (name, draft, filling) = *case;
     let mut book = filled(heap, HELD, false)?;
     let found = fill(heap, &mut book, draft, false);
-    check_filled(rt, heap, name, &book, draft, found, number)
+    check_filled(rt, heap, name, &book, draft, found, filling)
 }
 
 // A book that took a sheet has its counts; one that refused it is as it was.
@@ -274,11 +276,11 @@ fn check_filled(
     name: &str,
     book: &TableBook,
     draft: Draft,
-    found: Result<u8, Fail>,
-    number: u8,
+    found: Result<Filling, Fail>,
+    filling: Filling,
 ) -> Result<(), Fail> {
-    assert_eq!(rt; found?, number, "{name}");
-    if number == FILLED {
+    assert_eq!(rt; found?, filling, "{name}");
+    if filling.is_ok() {
         check_counts(rt, name, book, draft);
         return Ok(());
     }
@@ -325,8 +327,8 @@ fn check_most(
     rt: &impl Abort,
     heap: Global,
     book: &TableBook,
-    found: Result<u8, Fail>,
+    found: Result<Filling, Fail>,
 ) -> Result<(), Fail> {
-    assert_eq!(rt; (found?, book.checks()), (17, 65_536));
+    assert_eq!(rt; (found?, book.checks()), (Err(17), 65_536));
     check_schedule(rt, heap, "refused", book, Ok((4, 1)), &[0, 1])
 }

@@ -33,17 +33,11 @@ const BOUND: &[Settlement] = &[
 ];
 
 fn named(numerator: u64, denominator: u64) -> Result<Period, Fail> {
-    match Period::named(numerator, denominator) {
-        Ok(period) => Ok(period),
-        Err(_) => Err(Fail::new("no period")),
-    }
+    Period::named(numerator, denominator).map_err(|_| Fail::new("no period"))
 }
 
 fn constant(flops: usize, domains: usize) -> Result<ConstantBook, Fail> {
-    match ConstantBook::new(flops, domains, named(28, 5)?) {
-        Some(book) => Ok(book),
-        None => Err(Fail::new("no book")),
-    }
+    ConstantBook::new(flops, domains, named(28, 5)?).ok_or_else(|| Fail::new("no book"))
 }
 
 fn fits(flops: usize, domains: usize) -> bool {
@@ -85,18 +79,16 @@ fn no_check(rt: HostRuntime) -> Result<(), Fail> {
 fn bound(rt: HostRuntime) -> Result<(), Fail> {
     let first = constant(3, 4)?;
     let table = filled(rt.alloc(), PAIR, false)?;
-    match bind(first, table) {
-        Ok(book) => check_answers(
-            &rt,
-            rt.alloc(),
-            "bound",
-            &book,
-            Ok((28, 5)),
-            &[0, 1, 0],
-            BOUND,
-        ),
-        Err(_) => Err(Fail::new("too many checks")),
-    }
+    let book = bind(first, table).map_err(|_| Fail::new("too many checks"))?;
+    check_answers(
+        &rt,
+        rt.alloc(),
+        "bound",
+        &book,
+        Ok((28, 5)),
+        &[0, 1, 0],
+        BOUND,
+    )
 }
 
 // As text a period has its lowest terms.

@@ -1,8 +1,8 @@
 // The largest number of flip-flops and of domains.
-use crate::answers::{Answer, BEFORE, schedule_number, settle_number};
-use crate::drafts::{FILLED, fill_sheet, tables_of};
+use crate::answers::{Answer, BEFORE};
+use crate::drafts::{fill_sheet, numbers, tables_of};
 use crate::fills::EIGHT;
-use engine::{schedule, settle};
+use engine::{ScheduleFault, SettleFault, schedule, settle};
 use std::alloc::{AllocError, Global};
 use std::process::Abort;
 use std::test::Fail;
@@ -45,8 +45,8 @@ fn long_chain(heap: Global) -> Result<TableBook, Fail> {
     };
     let mut book = TableBook::new(heap);
     match fill_sheet(heap, &mut book, sheet)? {
-        FILLED => Ok(book),
-        _ => Err(Fail::new("refused")),
+        Ok(()) => Ok(book),
+        Err(_) => Err(Fail::new("refused")),
     }
 }
 
@@ -62,7 +62,9 @@ fn check_settled(rt: &impl Abort, book: &TableBook, case: &Case) {
     let (numerator, answer, domain) = *case;
     let mut list = [BEFORE; 256];
     assert_eq!(rt;
-        settle_number(settle(book, numerator, 1, &mut list)),
+        settle(book, numerator, 1, &mut list)
+            .map(numbers)
+            .map_err(SettleFault::number),
         answer,
         "{numerator}"
     );
@@ -71,7 +73,12 @@ fn check_settled(rt: &impl Abort, book: &TableBook, case: &Case) {
 
 fn check_scheduled(rt: &impl Abort, book: &TableBook) {
     let mut list = [BEFORE; 256];
-    assert_eq!(rt; schedule_number(schedule(book, &mut list)), Ok((93, 1)));
+    assert_eq!(rt;
+        schedule(book, &mut list)
+            .map(numbers)
+            .map_err(ScheduleFault::number),
+        Ok((93, 1))
+    );
     check_domains(rt, &list, 7);
 }
 
