@@ -1,11 +1,10 @@
 -- A turn of raising: the scan, and what follows it.
-use Rattle.std.proofs.Common.{◌≡◌, ℕ, ◌+◌, ◌<◌, true, false, List, length, Some, None, Option, refl, inl, inr, arith}
+use Rattle.std.proofs.Common.{◌≡◌, ℕ, ◌+◌, ◌<◌, ◌≤◌, true, false, List, length, Some, None, Option, refl, inl, inr, arith}
 use Rattle.fractions.specs.Fraction.{Fraction, NotLonger}
 use Rattle.fractions.proofs.Order.{not_longer_refl}
 use Rattle.checks.specs.Model.{Model, Sound}
-use Rattle.checks.specs.Scheduling.{Meets}
 use Rattle.checks.specs.Raises.{room}
-use Rattle.checks.proofs.Raising.{Raising, Scanned, raise_falls, scan_keeps, scan_takes, raising_improves, worst_there, raised, done_at_floor, done_at_top}
+use Rattle.checks.proofs.Raising.{Raising, Scanned, raise_falls, scan_keeps, scan_takes, scan_ends, raising_improves, worst_there, raised, done_at_floor, done_at_top}
 use Rattle.period.specs.declared.period.Period.{Period}
 use Rattle.period.specs.Periods.{fraction}
 use Rattle.period.proofs.Lengths.{is_period}
@@ -28,12 +27,12 @@ pub record Turned (book : Model) (current : List ℕ) (best : Best) (period : Fr
   pub raising : Raising book current best.domains (fraction best.period)
   pub no_longer : NotLonger (fraction best.period) period
 
-pub turned : {book : Model} {current : List ℕ} (before after : Best) (period : Period) → Sound book → Raising book current before.domains (fraction before.period) → Meets book current (fraction period) → Improved before period current after → Turned book current after (fraction period)
-turned {book} {current} before after period sound raising met (inl (short, is)) = rw is (record {
-  raising = raising_improves book current before.domains (fraction before.period) (fraction period) sound raising (is_period period).within met short;
+pub turned : {book : Model} {current : List ℕ} {place : ℕ} {worst : Option ℕ} (before after : Best) (period : Period) → Sound book → Raising book current before.domains (fraction before.period) → Scanned book current place (fraction period) worst → length book.checks ≤ place → Improved before period current after → Turned book current after (fraction period)
+turned {book} {current} {place} {worst} before after period sound raising scanned past (inl (short, is)) = rw is (record {
+  raising = raising_improves book current before.domains (fraction before.period) (fraction period) sound raising scanned.within (scan_ends book current place (fraction period) worst scanned past) short;
   no_longer = not_longer_refl (fraction period);
 })
-turned before after period sound raising met (inr (long, is)) = rw is (record { raising = raising; no_longer = long })
+turned before after period sound raising scanned past (inr (long, is)) = rw is (record { raising = raising; no_longer = long })
 
 -- ---- the worst end, raised or not
 

@@ -94,6 +94,7 @@ fn raise<B: Book>(book: &B) -> Best
             period: book.floor(),
             end: None,
         };
+        // At the place past the last check there is no need, and the scan is over.
         for place in 0..=book.checks() {
             match need_under(book, place, &current) {
                 Some(need) => worst.meet(need),

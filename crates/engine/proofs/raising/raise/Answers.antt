@@ -1,5 +1,5 @@
 use Rattle.std.proofs.Common.{arith}
-use Rattle.checks.proofs.Raising.{raising_begins, scan_ends}
+use Rattle.checks.proofs.Raising.{raising_begins}
 use Rattle.engine.proofs.Needs.{needed_within}
 use Rattle.engine.proofs.Turned.{turned, scan_more, turn_falls, turn_raises, turn_ends}
 use Rattle.engine.proofs.raising.raise.Goals as goal
@@ -24,13 +24,11 @@ raise-smaller-in-None g c =
 pub raise-preserved-in-None : goal.raise-preserved-in-None
 raise-preserved-in-None g c =
     let sound = g.met.B.Book.sound c.args.book.now in
-    let met = scan_ends _ _ _ _ _ c.loop-place.invariant.scanned c.in-None.ensures in
-    let turn = turned c.loop-place.best c.improve.new.self c.loop-place.worst.period sound c.loop-place.invariant.raising met c.improve.ensures in
+    let turn = turned c.loop-place.best c.improve.new.self c.loop-place.worst.period sound c.loop-place.invariant.raising c.loop-place.invariant.scanned c.in-None.ensures c.improve.ensures in
     turn_raises c.improve.new.self c.loop-place.worst.end c.rise.new.domains sound turn c.loop-place.invariant.scanned c.domains.ensures c.if-not-rise.ensures
 
 pub returns : goal.returns
 returns g c =
     let sound = g.met.B.Book.sound c.args.book.now in
-    let met = scan_ends _ _ _ _ _ c.loop-place.invariant.scanned c.in-None.ensures in
-    let turn = turned c.loop-place.best c.improve.new.self c.loop-place.worst.period sound c.loop-place.invariant.raising met c.improve.ensures in
+    let turn = turned c.loop-place.best c.improve.new.self c.loop-place.worst.period sound c.loop-place.invariant.raising c.loop-place.invariant.scanned c.in-None.ensures c.improve.ensures in
     turn_ends c.improve.new.self c.loop-place.worst.end c.rise.new.domains sound turn c.loop-place.invariant.scanned c.domains.ensures c.if-not-rise.ensures
