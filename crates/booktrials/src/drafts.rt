@@ -1,5 +1,5 @@
 // Sheets as the tables of trials write them, and the table books that hold them.
-use books::{Book, Ends};
+use books::Book;
 use period::Period;
 use std::alloc::{AllocError, Global};
 use std::process::Abort;
@@ -156,13 +156,13 @@ pub type Reading = (
 );
 
 pub fn check_readings<B: Book>(rt: &impl Abort, book: &B, readings: &[Reading]) {
-    for (place, start, end, (m, n), need) in readings {
-        let ends = book.ends(*place);
+    for &(place, start, end, (m, n), need) in readings {
+        let ends = book.ends(place);
         let found = (
             ends.map(|ends| ends.start),
             ends.map(|ends| ends.end),
-            need_of(book, *place, *m, *n),
+            need_of(book, place, m, n),
         );
-        assert_eq!(rt; found, (*start, *end, *need), "{}", *place);
+        assert_eq!(rt; found, (start, end, need), "{}", place);
     }
 }
