@@ -9,6 +9,7 @@ use crate::settling::settle;
 use books::Book;
 use period::Period;
 
+// A book and its list stay two parameters: a struct of the two would be made for one call and taken apart in it.
 pub fn schedule_both<A: Book, B: Book>(
     first: &A,
     second: &B,
