@@ -6,7 +6,7 @@ ghost use Rattle.engine.specs.Turns.{Covers, NeededAt, Stepped};
 use books::{Book, Ends};
 use period::Period;
 
-// What a check needs under an assignment, unless its end rises.
+// The period that a check needs under an assignment, and the flip-flop where the check ends.
 #[derive(Clone, Copy)]
 pub(crate) struct Need {
     pub(crate) period: Period,

@@ -26,7 +26,7 @@ pub fn schedule<B: Book>(book: &B, domains: &mut [u8]) -> Result<Period, Schedul
     Ok(best.period)
 }
 
-// A period with an assignment that meets it, and domain 0 past the last flip-flop.
+// The shortest period so far and the assignment of it, with domain 0 past the last flip-flop.
 #[derive(Clone, Copy)]
 struct Best {
     period: Period,
@@ -56,7 +56,7 @@ struct Worst {
 
 impl Worst {
     // Takes a need that is longer.
-    fn meet(&mut self, need: Need)
+    fn worsen(&mut self, need: Need)
         ensures { Worsened self.old need self.new }
     {
         if need.period > self.period {
@@ -97,7 +97,7 @@ fn raise<B: Book>(book: &B) -> Best
         // At the place past the last check there is no need, and the scan is over.
         for place in 0..=book.checks() {
             match need_under(book, place, &current) {
-                Some(need) => worst.meet(need),
+                Some(need) => worst.worsen(need),
                 None => {
                     best.improve(worst.period, &current);
                     if !worst.rise(&mut current, book.domains()) {

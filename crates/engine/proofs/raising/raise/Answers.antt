@@ -11,7 +11,7 @@ pub loop-place-preserved : goal.loop-place-preserved
 loop-place-preserved g c = record {
   unmoved = c.loop-place.invariant.unmoved;
   raising = c.loop-place.invariant.raising;
-  scanned = scan_more c.loop-place.worst c.meet.new.self (g.met.B.Book.sound c.args.book.now) c.loop-place.invariant.scanned c.in-Some.ensures c.meet.ensures;
+  scanned = scan_more c.loop-place.worst c.worsen.new.self (g.met.B.Book.sound c.args.book.now) c.loop-place.invariant.scanned c.in-Some.ensures c.worsen.ensures;
 }
 
 pub raise-smaller : goal.raise-smaller
