@@ -1,7 +1,7 @@
 // The digit layer: the bytes that a line holds.
 ghost use Rattle.std.specs.Prelude.{◌≡◌, Some, MatchResult};
 ghost use Rattle.dumps.specs.Reading.{value, decoded, held};
-ghost use Rattle.loader.specs.Digits.{Unread};
+ghost use Rattle.loader.specs.Digits.{Misspelled, Unread};
 
 use crate::faults::LineFault;
 use dumps::Ground;
@@ -19,7 +19,7 @@ const PAIR: usize = 2;
 
 // The value of a hexadecimal digit.
 fn value(digit: u8) -> Result<u8, LineFault>
-    ensures { MatchResult result (λ v. value digit ≡ Some v) (λ e. Unread e (value digit)) }
+    ensures { MatchResult result (λ v. value digit ≡ Some v) (λ e. Misspelled e (value digit)) }
 {
     match digit {
         b'0'..=b'9' => Ok(digit - b'0'),

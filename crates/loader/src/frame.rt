@@ -10,6 +10,7 @@ use dumps::Ground;
 use netlist::Terminal;
 use std::alloc::{AllocError, Global};
 
+// A frame begins with the byte of its kind.
 const DOMAINS: u8 = 0x01;
 
 const FLIP_FLOP: u8 = 0x02;
