@@ -23,24 +23,28 @@ pub struct Period {
 impl Period {
     ghost use Rattle.period.specs.Periods.{fraction, Named};
 
+    // The period of so many time units.
     #[tactic(auto, using(fractions::proofs::Lowest::coprime_one))]
-    pub fn zero() -> Period
-        ensures { fraction result ≡ whole 0 }
+    fn whole(units: u64) -> Period
+        requires { units ≤ most_num }
+        ensures { fraction result ≡ whole units }
     {
         Period {
-            numerator: 0,
+            numerator: units,
             denominator: 1,
         }
     }
 
-    #[tactic(auto, using(fractions::proofs::Lowest::coprime_one))]
+    pub fn zero() -> Period
+        ensures { fraction result ≡ whole 0 }
+    {
+        Period::whole(0)
+    }
+
     pub fn longest() -> Period
         ensures { fraction result ≡ whole most_num }
     {
-        Period {
-            numerator: MOST_NUMERATOR,
-            denominator: 1,
-        }
+        Period::whole(MOST_NUMERATOR)
     }
 
     // The period that two numbers name, unless as written they are outside the limits.
@@ -71,18 +75,14 @@ impl Period {
     }
 }
 
-// The period of so many time units: each count of 32 bits is within the limits.
+// Each count of time units of 32 bits is within the limits.
 impl From<u32> for Period {
     ghost use Rattle.period.specs.Periods.{fraction};
 
     ghost from_gives = { λ units p. fraction p ≡ whole units };
 
-    #[tactic(auto, using(fractions::proofs::Lowest::coprime_one))]
     fn from(units: u32) -> Period {
-        Period {
-            numerator: units as u64,
-            denominator: 1,
-        }
+        Period::whole(units as u64)
     }
 }
 

@@ -43,8 +43,7 @@ impl Sheet<'_> {
         ensures { IsTrue result ↔ CountsFit self.now.flops self.now.domains (length self.now.checks.now) self.now.floor }
     {
         self.flops <= MOST_FLOPS
-            && 1 <= self.domains
-            && self.domains <= MOST_DOMAINS
+            && (1..=MOST_DOMAINS).contains(&self.domains)
             && self.checks.len() <= MOST_TABLE_CHECKS
             && self.floor <= MOST_FIGURE
     }
