@@ -15,20 +15,23 @@ use Rattle.tablebook.proofs.Each.{each_unmapped, neighbours_unmapped, neighbours
 use Rattle.tablebook.proofs.Within.{tables_of}
 use lib.Dec.{ltb}
 
+-- `ltb` at two figures
 no_rise : (a b : ℕ) → b ≤ a → ltb a b ≡ false
 no_rise a b l = grind (arith, nat_tests)
 
 falls : (a b : ℕ) → ltb a b ≡ false → b ≤ a
 falls a b e = grind (arith, nat_tests)
 
-falling : (row : List ℕ) → NeverRises row → (i j : ℕ) → i ≤ j → j < length row → slice_index row j ≤ slice_index row i
-falling row down i j l h =
-    let steps : IsSortedBy (λ x y. ltb y x) row = λ k d low m.
+-- no figure is less than the one before it, in the order turned round
+turned : (row : List ℕ) → NeverRises row → IsSortedBy (λ x y. ltb y x) row
+turned row down k d low l =
     let here = get_or_default row k d 0 (omega arith) in
-    let next = get_or_default row (k + 1) d 0 m in
-    let lower : slice_index row (k + 1) ≤ slice_index row k = down k m in
-    no_rise (get_or row k d) (get_or row (k + 1) d) (omega arith) in
-    falls _ _ (sorted_far (λ x y. ltb y x) (IsStrictWeakOrder-flip (λ x y. ltb x y) (IsStrictWeakOrder-by_number (λ x. x))) row steps i j 0 l h)
+    let next = get_or_default row (k + 1) d 0 l in
+    let lower : slice_index row (k + 1) ≤ slice_index row k = down k l in
+    no_rise (get_or row k d) (get_or row (k + 1) d) (omega arith)
+
+falling : (row : List ℕ) → NeverRises row → (i j : ℕ) → i ≤ j → j < length row → slice_index row j ≤ slice_index row i
+falling row down i j l h = falls _ _ (sorted_far (λ x y. ltb y x) (IsStrictWeakOrder-flip (λ x y. ltb x y) (IsStrictWeakOrder-by_number (λ x. x))) row (turned row down) i j 0 l h)
 
 lawful_from : (domains : ℕ) (rows : List (List ℕ)) → TableFits domains rows → All NeverRises rows → AllAdjacentBelow StaysUnder rows (length rows) → Lawful domains rows
 lawful_from domains rows t down up =
