@@ -49,9 +49,8 @@ impl FromNumbers for u32 {
 }
 
 impl FromNumbers for (u64, u64) {
-    fn read(numbers: &mut Numbers<'_>, _heap: Global) -> Result<(u64, u64), AllocError> {
-        let first = numbers.number();
-        Ok((first, numbers.number()))
+    fn read(numbers: &mut Numbers<'_>, heap: Global) -> Result<(u64, u64), AllocError> {
+        Ok((u64::read(numbers, heap)?, u64::read(numbers, heap)?))
     }
 }
 

@@ -71,14 +71,6 @@ raising_begins book sound = record {
 
 -- ---- the scan
 
-pub scan_begins : (book : Model) (current : List ℕ) (period : Fraction) → Sound book → Within period → AsLong period book.floor → Scanned book current 0 period None
-scan_begins book current period sound fits same = record {
-  within = fits;
-  floor = as_long_not_longer book.floor period (as_long_sym period book.floor same);
-  needs = λ k c before. absurd (omega arith);
-  worst_end = same;
-}
-
 -- the needs before a place and the need at it
 pub needs_more : (book : Model) (current : List ℕ) (place : ℕ) (period : Fraction) (c : Check) → ((k : ℕ) (d : Check) → k < place → Stands book k d → NotLonger (need_under current d) period) → Stands book place c → NotLonger (need_under current c) period → (k : ℕ) (d : Check) → k < place + 1 → Stands book k d → NotLonger (need_under current d) period
 needs_more book current place period c before stands here k d below there = elim (cases_lt k place) [

@@ -1,5 +1,5 @@
 -- A pass of settling, check by check.
-use Rattle.std.proofs.Common.{◌≡◌, ℕ, ◌+◌, ◌<◌, ◌≤◌, true, false, Bool, List, length, Ok, refl, inl, inr, arith}
+use Rattle.std.proofs.Common.{◌≡◌, ℕ, ◌+◌, ◌<◌, ◌≤◌, true, false, Bool, List, length, Ok, inl, inr, arith}
 use Rattle.std.proofs.lemmas.Option.{slice_get_past}
 use Rattle.std.proofs.lemmas.Bool.{cases_lt}
 use Rattle.fractions.specs.Fraction.{Fraction, NotLonger, Shorter}
@@ -12,7 +12,7 @@ use Rattle.checks.proofs.Settling.{settling_raises, settling_stuck}
 use Rattle.period.specs.Periods.{fraction}
 use Rattle.period.proofs.Lengths.{is_period}
 use Rattle.engine.specs.declared.lists.Need.{Need}
-use Rattle.engine.specs.Turns.{Covers, Needed, Stepped}
+use Rattle.engine.specs.Turns.{Needed, Stepped}
 use Rattle.engine.specs.Passes.{Passed}
 
 -- what the checks before a place did: none was above the period, or some ends are higher
@@ -23,12 +23,6 @@ Done book period before after place true = room after < room before
 pub record Passing (book : Model) (period : Fraction) (before after : List ℕ) (place : ℕ) (found : Bool) : Type 0 where
   pub settling : Settling book period after
   pub done : Done book period before after place found
-
-pub settling_covers : {book : Model} {period : Fraction} {domains : List ℕ} → Settling book period domains → Covers book domains
-settling_covers settling = record { long = omega (arith, settling.one_each); exist = settling.exist }
-
-pub pass_begins : {book : Model} {period : Fraction} {before : List ℕ} → Settling book period before → Passing book period before before 0 false
-pass_begins settling = record { settling = settling; done = (refl, λ k c below. absurd (omega arith)) }
 
 -- ---- a check that is not above the period
 

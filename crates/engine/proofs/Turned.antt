@@ -11,10 +11,7 @@ use Rattle.period.proofs.Lengths.{is_period}
 use Rattle.engine.specs.declared.lists.Need.{Need}
 use Rattle.engine.specs.declared.raising.Best.{Best}
 use Rattle.engine.specs.declared.raising.Worst.{Worst}
-use Rattle.engine.specs.Turns.{Covers, Needed, Risen, Worsened, Improved, Raised}
-
-pub raising_covers : {book : Model} {current chosen : List ℕ} {shortest : Fraction} → Sound book → Raising book current chosen shortest → Covers book current
-raising_covers sound raising = record { long = omega (arith, sound.few_flops, raising.current_long); exist = raising.current_exist }
+use Rattle.engine.specs.Turns.{Needed, Risen, Worsened, Improved, Raised}
 
 pub scan_more : {book : Model} {current : List ℕ} {place : ℕ} (before after : Worst) {need : Need} → Sound book → Scanned book current place (fraction before.period) before.end → Needed book current place need → Worsened before need after → Scanned book current (place + 1) (fraction after.period) after.end
 scan_more {book} {current} {place} before after {need} sound scanned needed (inl (longer, is)) =
