@@ -1,4 +1,4 @@
-use Rattle.std.proofs.Common.{◌≡◌, ◌<◌, Bool, true, false, cond, refl}
+use Rattle.std.proofs.Common.{◌≡◌, ◌<◌, Bool, true, false, cond, refl, rules}
 use Rattle.std.specs.Ordering.{is_lt}
 use Rattle.fractions.specs.Fraction.{Fraction, AsLong}
 use Rattle.period.specs.declared.period.Period.{Period}
@@ -13,4 +13,6 @@ max_longer p q first second true is a b same like = longer_first (fraction p) (f
 max_longer p q first second false is a b same like = longer_second (fraction p) (fraction q) first second p.parted q.parted same like (lt_false (fraction q) (fraction p) false is refl)
 
 pub returns : goal.returns
-returns g c = rw c.max.ensures (max_longer c.floor.result c.floor-2.result _ _ _ refl (g.met.A.Book.sound c.args.self.now.first).floor_within.parted (g.met.B.Book.sound c.args.self.now.second).floor_within.parted c.floor.ensures c.floor-2.ensures)
+returns g c =
+    let longest = max_longer c.floor.result c.floor-2.result _ _ _ refl (g.met.A.Book.sound c.args.self.now.first).floor_within.parted (g.met.B.Book.sound c.args.self.now.second).floor_within.parted c.floor.ensures c.floor-2.ensures in
+    search (rules, longest)
