@@ -7,7 +7,7 @@ use Rattle.std.proofs.lemmas.Bool.{cases_lt}
 use Rattle.std.proofs.lemmas.Bool.Decides.{leb_tells}
 use Rattle.std.proofs.lemmas.List.{length-append, length-take, take_all}
 use Rattle.fractions.specs.Fraction.{Fraction, NotLonger, Shorter, AsLong, Within}
-use Rattle.fractions.proofs.Order.{not_longer_left, not_longer_right, shorter_left, shorter_right}
+use Rattle.fractions.proofs.Order.{not_longer_antisym, as_long_trans, not_longer_left, not_longer_right}
 use Rattle.checks.specs.Limits.{most_flops, most_domains, most_checks}
 use Rattle.checks.specs.Model.{Check, Model, Stands, SoundCheck, Sound}
 use Rattle.boundbook.specs.Bound.{longer, bound}
@@ -59,10 +59,10 @@ longer_second p q first second a b same like l =
     (λ t. absurd (turned first second (not_longer_right first q second b like (not_longer_left p first q a same l)) t.1))
     (leb_tells (first.num * second.den) (second.num * first.den))
 
-pub longer_first : (p q first second : Fraction) → 0 < first.den → 0 < second.den → AsLong p first → AsLong q second → Shorter q p → AsLong p (longer first second)
-longer_first p q first second a b same like l =
+pub longer_first : (p q first second : Fraction) → 0 < p.den → 0 < q.den → 0 < first.den → 0 < second.den → AsLong p first → AsLong q second → NotLonger q p → AsLong p (longer first second)
+longer_first p q first second a b d e same like l =
     ⊎_elim
-    (λ t. absurd (turned first second t.1 (shorter_right second p first a same (shorter_left q second p b like l))))
+    (λ t. subst (λ c. AsLong p (cond c second first)) (sym t.0) (as_long_trans p first second d same (not_longer_antisym first second t.1 (not_longer_right second p first a same (not_longer_left q second p b like l)))))
     (λ t. subst (λ c. AsLong p (cond c second first)) (sym t.0) same)
     (leb_tells (first.num * second.den) (second.num * first.den))
 
