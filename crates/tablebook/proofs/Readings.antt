@@ -1,14 +1,12 @@
 -- Reading a table book: checks and figures as the program has them are those of its sheet.
 use Rattle.std.proofs.Common.{◌≡◌, ℕ, ◌*◌, ◌<◌, List, [], map, length, get_or, Some, None, vec_items, Option, sym, ap, ◌∙◌, subst, arith}
-use mathlib.Core.Logic.{∥∥₁_elim}
-use native.Mathlib.Bridge.{le_prop}
 use Rattle.std.specs.List.{slice_get}
 use Rattle.std.specs.Option.{option_map}
 use Rattle.std.specs.Global.{Vec}
 use Rattle.std.proofs.lemmas.List.{length-map, get_or-map, get_or_default}
 use Rattle.std.proofs.lemmas.Option.{slice_get-map}
 use Rattle.fractions.specs.Fraction.{Fraction, whole, AsLong}
-use Rattle.tablebook.specs.Sheets.{figure, check_of, TableFits, Kept}
+use Rattle.tablebook.specs.Sheets.{figure, check_of, TableFits}
 use Rattle.tablebook.specs.Tables.{rows_of, entry_of}
 use Rattle.tablebook.specs.Held.{held}
 use Rattle.tablebook.specs.Kept.{columns_of, fits_there}
@@ -31,19 +29,19 @@ check_at tables checks place o e = slice_get-map (check_of tables) (map entry_of
 -- its table is there
 pub table_there : (b : TableBook) (place : ℕ) (c : TableCheck) → Some c ≡ slice_get (vec_items b.checks) place → c.table < length (vec_items b.tables)
 table_there b place c e =
-    ∥∥₁_elim b.kept le_prop (λ k. subst (λ n. c.table < n) (length-map (vec_items b.tables) rows_of) (fits_there (held b) k place (entry_of c) (nth_mapped entry_of (vec_items b.checks) place c (sym e))).table_there)
+    subst (λ n. c.table < n) (length-map (vec_items b.tables) rows_of) (fits_there (held b) b.kept place (entry_of c) (nth_mapped entry_of (vec_items b.checks) place c (sym e))).table_there
 
-fits_read : (b : TableBook) → Kept (held b) → (t : ℕ) (v : Vec (Vec ℕ)) → t < length (vec_items b.tables) → v ≡ get_or (vec_items b.tables) t v → TableFits b.domains (rows_of v)
-fits_read b k t v l e = subst (TableFits b.domains) (mapped_read rows_of (vec_items b.tables) [] t v l e) (k.fits.tables_fit t (subst (λ n. t < n) (sym (length-map (vec_items b.tables) rows_of)) l))
+fits_read : (b : TableBook) (t : ℕ) (v : Vec (Vec ℕ)) → t < length (vec_items b.tables) → v ≡ get_or (vec_items b.tables) t v → TableFits b.domains (rows_of v)
+fits_read b t v l e = subst (TableFits b.domains) (mapped_read rows_of (vec_items b.tables) [] t v l e) (b.kept.fits.tables_fit t (subst (λ n. t < n) (sym (length-map (vec_items b.tables) rows_of)) l))
 
 -- a table has a row and a column for each domain
 pub row_there : (b : TableBook) (t m : ℕ) (v : Vec (Vec ℕ)) → t < length (vec_items b.tables) → v ≡ get_or (vec_items b.tables) t v → m < b.domains → m < length (vec_items v)
 row_there b t m v l e k =
-    ∥∥₁_elim b.kept le_prop (λ kept. subst (λ n. m < n) (sym (fits_read b kept t v l e).row_count ∙ length-map (vec_items v) vec_items) k)
+    subst (λ n. m < n) (sym (fits_read b t v l e).row_count ∙ length-map (vec_items v) vec_items) k
 
 pub column_there : (b : TableBook) (t m n : ℕ) (v : Vec (Vec ℕ)) (row : Vec ℕ) → t < length (vec_items b.tables) → v ≡ get_or (vec_items b.tables) t v → m < b.domains → row ≡ get_or (vec_items v) m row → n < b.domains → n < length (vec_items row)
 column_there b t m n v row l e k f h =
-    ∥∥₁_elim b.kept le_prop (λ kept. subst (λ z. n < z) (sym (columns_of b.domains (rows_of v) (fits_read b kept t v l e) m k) ∙ ap length (mapped_read vec_items (vec_items v) [] m row (row_there b t m v l e k) f)) h)
+    subst (λ z. n < z) (sym (columns_of b.domains (rows_of v) (fits_read b t v l e) m k) ∙ ap length (mapped_read vec_items (vec_items v) [] m row (row_there b t m v l e k) f)) h
 
 -- the figure in a row and a column of a table
 pub figure_read : (b : TableBook) (t m n : ℕ) (v : Vec (Vec ℕ)) (row : Vec ℕ) (x : ℕ) → t < length (vec_items b.tables) → v ≡ get_or (vec_items b.tables) t v → m < b.domains → row ≡ get_or (vec_items v) m row → n < b.domains → x ≡ get_or (vec_items row) n x → figure (get_or (map rows_of (vec_items b.tables)) t []) m n ≡ x

@@ -1,11 +1,9 @@
 -- What a table book holds is sound.
 use Rattle.std.specs.Prelude.{◌≡◌, ℕ, ◌<◌, ◌≤◌, List, [], length, slice_index_or, Some}
 use Rattle.std.proofs.Common.{sym, subst, arith}
-use Rattle.std.proofs.Math.Logic.{∥∥₁_elim}
-use Rattle.std.proofs.Math.Bridge.{le_prop}
 use Rattle.std.specs.List.{slice_get}
 use Rattle.std.proofs.lemmas.List.{length-map}
-use Rattle.fractions.specs.Fraction.{Fraction, whole, NotLonger, Within}
+use Rattle.fractions.specs.Fraction.{whole, NotLonger, Within}
 use Rattle.checks.specs.Limits.{most_checks}
 use Rattle.checks.specs.Model.{Check, Stands, SoundCheck, Sound}
 use Rattle.tablebook.specs.Sheets.{Entry, Sheet, nowhere, figure, check_of, model_of, most_entries, most_figure, TableFits, EntryFits, Kept}
@@ -57,30 +55,3 @@ kept_sound s k =
       floor_within = within_figure s.floor counts.floor_fits;
       each = λ place c stands. let p = entry_stands s place c stands in subst (SoundCheck s.flops s.domains) (sym p.2) (sound_entry s k p.0 (fits_there s k place p.0 p.1));
     }
-
--- the same of what a book is known to keep
-told : {P : Type 0} (s : Sheet) → IsProp P → ∥ Kept s ∥₁ → (Sound (model_of s) → P) → P
-told s prop kept f = ∥∥₁_elim kept prop (λ k. f (kept_sound s k))
-
-told_within : (s : Sheet) (p : Fraction) → ∥ Kept s ∥₁ → (Sound (model_of s) → Within p) → Within p
-told_within s p k f = record {
-  few_units = told s le_prop k (λ sound. (f sound).few_units);
-  parted = told s le_prop k (λ sound. (f sound).parted);
-  coarse = told s le_prop k (λ sound. (f sound).coarse);
-}
-
-pub told_sound : (s : Sheet) → ∥ Kept s ∥₁ → Sound (model_of s)
-told_sound s k = record {
-  few_flops = told s le_prop k (λ sound. sound.few_flops);
-  some_domain = told s le_prop k (λ sound. sound.some_domain);
-  few_domains = told s le_prop k (λ sound. sound.few_domains);
-  few_checks = told s le_prop k (λ sound. sound.few_checks);
-  floor_within = told_within s (whole s.floor) k (λ sound. sound.floor_within);
-  each = λ place c stands. record {
-    start_there = told s le_prop k (λ sound. (sound.each place c stands).start_there);
-    end_there = told s le_prop k (λ sound. (sound.each place c stands).end_there);
-    within = λ m n a b. told_within s (c.need m n) k (λ sound. (sound.each place c stands).within m n a b);
-    never_falls = λ m higher n a b d. told s le_prop k (λ sound. (sound.each place c stands).never_falls m higher n a b d);
-    never_rises = λ m n higher a b d. told s le_prop k (λ sound. (sound.each place c stands).never_rises m n higher a b d);
-  };
-}

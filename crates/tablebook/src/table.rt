@@ -16,7 +16,7 @@ pub struct TableBook {
     floor: u32,
     tables: Vec<Vec<Vec<u32>>>,
     checks: Vec<TableCheck>,
-    ghost kept: { ∥ Kept (sheet flops domains floor tables.items checks.items) ∥₁ },
+    ghost kept: { Kept (sheet flops domains floor tables.items checks.items) },
 }
 
 impl TableBook {

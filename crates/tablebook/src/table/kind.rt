@@ -2,7 +2,7 @@
 ghost use Rattle.std.specs.Prelude.{◌≡◌};
 ghost use Rattle.std.specs.List.{slice_get};
 ghost use Rattle.tablebook.specs.Held.{table_meaning, held};
-ghost use Rattle.tablebook.specs.Kept.{told_sound};
+ghost use Rattle.tablebook.specs.Kept.{kept_sound};
 
 use crate::sheet::TableCheck;
 use crate::table::TableBook;
@@ -20,7 +20,7 @@ impl TableBook {
 impl Book for TableBook {
     ghost meaning = { table_meaning };
 
-    ghost sound = { λ b. told_sound (held b) b.kept };
+    ghost sound = { λ b. kept_sound (held b) b.kept };
 
     fn flops(&self) -> usize {
         self.flops

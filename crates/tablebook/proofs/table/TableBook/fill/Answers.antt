@@ -30,7 +30,7 @@ returns-in_err-checks c =
 pub invariant_of-drop : goal.invariant_of-drop
 invariant_of-drop c =
     let fits = c.fits.ensures.0 c.if-not-fits.false in
-    record { kept = ∣ subst Kept (copied c.args.sheet _ _ c.in_ok-tables.ensures.items c.in_ok-checks.ensures.items) (record { fits = fits; lawful = (c.is_lawful.ensures fits).0 c.if-not-is_lawful.false }) ∣₁ }
+    record { kept = subst Kept (copied c.args.sheet _ _ c.in_ok-tables.ensures.items c.in_ok-checks.ensures.items) (record { fits = fits; lawful = (c.is_lawful.ensures fits).0 c.if-not-is_lawful.false }) }
 
 pub returns : goal.returns
 returns c =
