@@ -81,10 +81,10 @@ fn report_books<A: Book, B: Book>(
     Ok(())
 }
 
-fn fill<'a>(
+fn fill(
     book: &mut TableBook,
-    case: &'a Case,
-    checks: &'a [TableCheck],
+    case: &Case,
+    checks: &[TableCheck],
     heap: Global,
 ) -> Result<(), FillFault> {
     let sheet = Sheet {
