@@ -35,7 +35,7 @@ pub trait Book {
     fn ends(&self, place: usize) -> Option<Ends>
         ensures { result ≡ ends_at (meaning self.now) place };
 
-    // What it needs in these domains of its start and its end, or none beyond the last check or domain.
+    // What it needs in these domains of its start and its end, or none beyond the last check or domain. Two numbers and no `Ends`, which are flip-flops.
     fn need(&self, place: usize, start_domain: usize, end_domain: usize) -> Option<Period>
         ensures { Needs (meaning self.now) place start_domain end_domain result };
 

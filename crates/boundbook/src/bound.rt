@@ -23,11 +23,13 @@ pub struct TooManyChecks<A, B> {
     pub second: B,
 }
 
+const TOO_MANY_NUMBER: u8 = 19;
+
 impl<A, B> TooManyChecks<A, B> {
     pub fn number(&self) -> u8
         ensures { result ≡ too_many_number }
     {
-        19
+        TOO_MANY_NUMBER
     }
 }
 

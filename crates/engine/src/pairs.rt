@@ -1,4 +1,5 @@
-// Two books of any two kinds: where they have the same checks in any order, their answers agree.
+// Two books of any two kinds: where they have the same checks in any order, their answers agree. Two functions: one that took the call as a
+// parameter could not call it on two kinds of book.
 ghost use Rattle.period.specs.Periods.{written};
 ghost use Rattle.engine.specs.Answers.{schedule_answer, settle_answer};
 ghost use Rattle.engine.specs.Pairs.{BothScheduled, BothSettled};

@@ -27,6 +27,7 @@ pub fn schedule<B: Book>(book: &B, domains: &mut [u8]) -> Result<Period, Schedul
 }
 
 // The shortest period so far and the assignment of it, with domain 0 past the last flip-flop.
+// An array of a fixed size, since the engine allocates nothing.
 #[derive(Clone, Copy)]
 struct Best {
     period: Period,

@@ -11,7 +11,7 @@ use books::Book;
 use period::Period;
 
 // The period that two numbers name, with the lowest assignment that meets it in the list; all zeros where none meets it. A list of another
-// length than the number of flip-flops stays as it was.
+// length than the number of flip-flops stays as it was. The two numbers stand apart: no type holds them before they are tested here.
 pub fn settle<B: Book>(
     book: &B,
     numerator: u64,

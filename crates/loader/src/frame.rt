@@ -11,6 +11,8 @@ use netlist::Terminal;
 use std::alloc::{AllocError, Global};
 
 // A frame begins with the byte of its kind.
+// The kind bytes. Constants, and no discriminants of `Kind`: a rule of the project has a frame taken apart by one slice pattern, kind byte first, and a
+// pattern names constants.
 const DOMAINS: u8 = 0x01;
 
 const FLIP_FLOP: u8 = 0x02;

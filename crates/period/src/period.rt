@@ -47,7 +47,8 @@ impl Period {
         Period::whole(MOST_NUMERATOR)
     }
 
-    // The period that two numbers name, unless as written they are outside the limits.
+    // The period that two numbers name, unless as written they are outside the limits. A call by name and no `TryFrom`, which would take a pair that
+    // does not say which number is which.
     #[tactic(auto, using(fractions::proofs::Lowest::reduced))]
     pub fn named(numerator: u64, denominator: u64) -> Result<Period, NotAPeriod>
         ensures { Named numerator denominator result }

@@ -15,7 +15,7 @@ pub enum FillFault {
 }
 
 impl FillFault {
-    // The number of a refusal; want of memory has none.
+    // The number of a refusal; want of memory has none, and so there are no discriminants.
     pub fn number(self) -> Option<u8>
         ensures { result ≡ fill_number self }
     {

@@ -5,6 +5,7 @@ use netlist::{Block, ChangeFault, Place};
 use std::process::Abort;
 use std::test::Fail;
 
+// Data and no closures: the cases stand in constant tables, and a failed check prints the change.
 #[derive(Clone, Copy, Debug)]
 enum Change {
     // number, smaller and larger delay

@@ -1,4 +1,5 @@
-// Changes of one element of a draft, which its table lends.
+// Changes of one element of a draft, which its table lends. Three calls and no generic one: each takes figures of its own, and only those of a
+// gate can be refused; what they share is the loan.
 ghost use Rattle.netlist.specs.Changes.{change_code, ChangeGateCall, ChangeWireCall, ChangeFlopCall};
 ghost use Rattle.netlist.specs.Drafted.{drafted};
 

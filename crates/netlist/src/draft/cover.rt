@@ -28,6 +28,7 @@ impl Draft {
     fn is_joined_up(&self) -> bool
         ensures { IsTrue result ↔ Covered (drafted self.now) }
     {
+        // Arrays of a fixed size, and no `Vec`: `close` cannot fail for want of memory.
         let mut fed = [false; MOST_GATES];
         let mut drained = [false; MOST_GATES];
         let wires = self.wires.as_slice();

@@ -1,4 +1,5 @@
-// How a draft takes its elements, one by one.
+// How a draft takes its elements, one by one. Three calls and no generic one: each takes figures of its own and refuses them on grounds of its own;
+// what they share, the room and the push, is the table's.
 ghost use Rattle.std.specs.Prelude.{◌≡◌, length};
 ghost use Rattle.circuit.specs.Circuit.{empty};
 ghost use Rattle.circuit.specs.Sound.{forward, there};
