@@ -26,6 +26,7 @@ fn skew_list(skews: &[u16], heap: Global) -> Result<String, AllocError>
     Ok(all)
 }
 
+// A function and no `Display`: these are words of the account, and not of the block.
 fn of_block(block: &Block, heap: Global) -> Result<String, AllocError>
     ensures { IfOk result (λ s. string_bytes s ≡ shown (accepted (circuit block.now))) }
 {
@@ -39,7 +40,7 @@ fn of_block(block: &Block, heap: Global) -> Result<String, AllocError>
     )
 }
 
-// Fails where the load failed for want of memory.
+// Fails where the load failed for want of memory, and so is no `Display` either.
 fn of_error(error: LoadError, heap: Global) -> Result<String, AllocError>
     ensures { IfOk result (λ s. Tells error (string_bytes s)) }
 {

@@ -8,7 +8,7 @@ ghost use Rattle.books.specs.Answers.{ends_at, Needs};
 use period::Period;
 
 // The flip-flops where a check starts and ends.
-#[derive(Clone, Copy, PartialEq, Eq, Debug)]
+#[derive(Clone, Copy)]
 pub struct Ends {
     pub start: usize,
     pub end: usize,

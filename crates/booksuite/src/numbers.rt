@@ -16,7 +16,8 @@ impl<'a> Numbers<'a> {
         }
     }
 
-    // The next number, as far as it fits, and 0 past the last one.
+    // The next number, the largest where a word is none or does not fit, and 0 past the last: with no count nothing more is read, so that no
+    // `Option` has to be taken apart at each number.
     pub fn number(&mut self) -> u64 {
         match self.words.next() {
             Some(word) => word.parse().unwrap_or(u64::MAX),

@@ -19,17 +19,48 @@ fn print_list(rt: &HostRuntime, list: &[u8]) -> anyhow::Result<()> {
 }
 
 // What a call answers, a period or the number of a refusal, and the list after it.
-fn print_answer(
+fn print_answer<E, F: FnOnce(E) -> u8>(
     rt: &HostRuntime,
     call: &str,
-    answer: Result<Period, u8>,
+    answer: Result<Period, E>,
+    number: F,
     list: &[u8],
-) -> anyhow::Result<()> {
-    match answer {
+) -> anyhow::Result<()>
+    requires { F.IsAlwaysCallable number }
+{
+    match answer.map_err(number) {
         Ok(period) => print!(rt; "{call} {period}")?,
         Err(number) => print!(rt; "{call} refused {number}")?,
     }
     print_list(rt, list)
+}
+
+fn report_schedule<A: Book, B: Book>(
+    rt: &HostRuntime,
+    first: &A,
+    second: &B,
+    one: &mut [u8],
+    other: &mut [u8],
+) -> anyhow::Result<()> {
+    let (answer, again) = schedule_both(first, second, one, other);
+    print_answer(rt, "schedule", answer, ScheduleFault::number, one)?;
+    print_answer(rt, "schedule", again, ScheduleFault::number, other)
+}
+
+fn report_settlement<A: Book, B: Book>(
+    rt: &HostRuntime,
+    first: &A,
+    second: &B,
+    period: (u64, u64),
+    one: &mut [u8],
+    other: &mut [u8],
+) -> anyhow::Result<()> {
+    one.fill(UNTOUCHED);
+    other.fill(UNTOUCHED);
+    let (numerator, denominator) = period;
+    let (answer, again) = settle_both(first, second, numerator, denominator, one, other);
+    print_answer(rt, "settle", answer, SettleFault::number, one)?;
+    print_answer(rt, "settle", again, SettleFault::number, other)
 }
 
 fn report_books<A: Book, B: Book>(
@@ -41,41 +72,15 @@ fn report_books<A: Book, B: Book>(
 ) -> anyhow::Result<()> {
     let mut one = vec![in heap; UNTOUCHED; first.flops()]?;
     let mut other = vec![in heap; UNTOUCHED; second.flops()]?;
-    let (answer, again) = schedule_both(first, second, one.as_mut_slice(), other.as_mut_slice());
-    print_answer(
-        rt,
-        "schedule",
-        answer.map_err(ScheduleFault::number),
-        one.as_slice(),
-    )?;
-    print_answer(
-        rt,
-        "schedule",
-        again.map_err(ScheduleFault::number),
-        other.as_slice(),
-    )?;
-    for &(numerator, denominator) in periods {
-        one.as_mut_slice().fill(UNTOUCHED);
-        other.as_mut_slice().fill(UNTOUCHED);
-        let (answer, again) = settle_both(
+    report_schedule(rt, first, second, one.as_mut_slice(), other.as_mut_slice())?;
+    for period in periods {
+        report_settlement(
+            rt,
             first,
             second,
-            numerator,
-            denominator,
+            *period,
             one.as_mut_slice(),
             other.as_mut_slice(),
-        );
-        print_answer(
-            rt,
-            "settle",
-            answer.map_err(SettleFault::number),
-            one.as_slice(),
-        )?;
-        print_answer(
-            rt,
-            "settle",
-            again.map_err(SettleFault::number),
-            other.as_slice(),
         )?;
     }
     Ok(())

@@ -2,6 +2,7 @@
 use crate::drafts::numbers;
 use books::Book;
 use engine::{ScheduleFault, SettleFault, schedule, settle};
+use period::Period;
 use std::alloc::Global;
 use std::process::Abort;
 use std::test::Fail;
@@ -15,6 +16,13 @@ pub const BEFORE: u8 = 9;
 // The two numbers that name a period, the answer of settling at it and the list after it, which is as long as the list before it.
 pub type Settlement = (u64, u64, Answer, &'static [u8]);
 
+// An answer of the engine, by its numbers.
+pub fn told<E, F: FnOnce(E) -> u8>(answer: Result<Period, E>, number: F) -> Answer
+    requires { F.IsAlwaysCallable number }
+{
+    answer.map(numbers).map_err(number)
+}
+
 // Schedules with a list as long as the one that is to come out; what fails is told by the name.
 pub fn check_schedule<B: Book>(
     rt: &impl Abort,
@@ -25,9 +33,7 @@ pub fn check_schedule<B: Book>(
     after: &[u8],
 ) -> Result<(), Fail> {
     let mut list = vec![in heap; BEFORE; after.len()]?;
-    let found = schedule(book, list.as_mut_slice())
-        .map(numbers)
-        .map_err(ScheduleFault::number);
+    let found = told(schedule(book, list.as_mut_slice()), ScheduleFault::number);
     assert_eq!(rt; (found, list.as_slice()), (answer, after), "{name}");
     Ok(())
 }
@@ -42,9 +48,10 @@ fn check_settlement<B: Book>(
 ) -> Result<(), Fail> {
     let (numerator, denominator, answer, after) = *case;
     let mut list = vec![in heap; BEFORE; after.len()]?;
-    let found = settle(book, numerator, denominator, list.as_mut_slice())
-        .map(numbers)
-        .map_err(SettleFault::number);
+    let found = told(
+        settle(book, numerator, denominator, list.as_mut_slice()),
+        SettleFault::number,
+    );
     assert_eq!(rt;
         (found, list.as_slice()),
         (answer, after),

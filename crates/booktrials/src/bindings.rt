@@ -1,7 +1,7 @@
 // Books bound into one: what the bound book answers, how many checks two books may have, and that the same checks spread over two books get the same.
-use crate::answers::{Answer, BEFORE, Settlement, check_answers, check_schedule};
+use crate::answers::{Answer, BEFORE, Settlement, check_answers, check_schedule, told};
 use crate::cases::{THREE, TWO};
-use crate::drafts::{Draft, Reading, check_counts, check_readings, filled, numbers, repeated};
+use crate::drafts::{Draft, Reading, check_counts, check_readings, filled, repeated};
 use books::Book;
 use boundbook::{Bound, TooManyChecks, bind};
 use engine::{ScheduleFault, SettleFault, schedule_both, settle_both};
@@ -194,8 +194,8 @@ fn check_both_settled<A: Book, B: Book>(rt: &impl Abort, first: &A, second: &B, 
     let mut other = [BEFORE; 4];
     let (here, there) = settle_both(first, second, numerator, denominator, &mut one, &mut other);
     let found = (
-        here.map(numbers).map_err(SettleFault::number),
-        there.map(numbers).map_err(SettleFault::number),
+        told(here, SettleFault::number),
+        told(there, SettleFault::number),
         one,
         other,
     );
@@ -207,8 +207,8 @@ fn check_both_scheduled<A: Book, B: Book>(rt: &impl Abort, first: &A, second: &B
     let mut other = [BEFORE; 4];
     let (here, there) = schedule_both(first, second, &mut one, &mut other);
     let found = (
-        here.map(numbers).map_err(ScheduleFault::number),
-        there.map(numbers).map_err(ScheduleFault::number),
+        told(here, ScheduleFault::number),
+        told(there, ScheduleFault::number),
         one,
         other,
     );

@@ -64,7 +64,7 @@ pub fn fill_sheet(heap: Global, book: &mut TableBook, sheet: Sheet<'_>) -> Resul
     }
 }
 
-// Fills a book with a draft, its checks from first to last or from last to first.
+// Fills a book with a draft, its checks from first to last or, turned, from last to first.
 pub fn fill(
     heap: Global,
     book: &mut TableBook,
@@ -86,10 +86,8 @@ pub fn fill(
 // A new book that holds a draft.
 pub fn filled(heap: Global, draft: Draft, turned: bool) -> Result<TableBook, Fail> {
     let mut book = TableBook::new(heap);
-    match fill(heap, &mut book, draft, turned)? {
-        Ok(()) => Ok(book),
-        Err(_) => Err(Fail::new("refused")),
-    }
+    fill(heap, &mut book, draft, turned)?.map_err(|_| Fail::new("refused"))?;
+    Ok(book)
 }
 
 // Fills a book with so many checks from flip-flop 0 to flip-flop 1, all with the table 10 4 / 12 10.
@@ -114,10 +112,8 @@ pub fn fill_repeated(heap: Global, book: &mut TableBook, count: usize) -> Result
 // A new book with so many checks.
 pub fn repeated(heap: Global, count: usize) -> Result<TableBook, Fail> {
     let mut book = TableBook::new(heap);
-    match fill_repeated(heap, &mut book, count)? {
-        Ok(()) => Ok(book),
-        Err(_) => Err(Fail::new("refused")),
-    }
+    fill_repeated(heap, &mut book, count)?.map_err(|_| Fail::new("refused"))?;
+    Ok(book)
 }
 
 // A period by its two numbers.

@@ -1,6 +1,6 @@
 // The largest number of flip-flops and of domains.
-use crate::answers::{Answer, BEFORE};
-use crate::drafts::{fill_sheet, numbers, tables_of};
+use crate::answers::{Answer, BEFORE, told};
+use crate::drafts::{fill_sheet, tables_of};
 use crate::fills::EIGHT;
 use engine::{ScheduleFault, SettleFault, schedule, settle};
 use std::alloc::{AllocError, Global};
@@ -22,15 +22,13 @@ const CASES: &[Case] = &[
 
 // A check from each of 256 flip-flops to the next.
 fn links(heap: Global) -> Result<Vec<TableCheck>, AllocError> {
-    let mut checks = Vec::new(heap);
-    for start in 0..255 {
-        checks.push(TableCheck {
+    (0..255usize)
+        .map(|start| TableCheck {
             start,
             end: start + 1,
             table: 0,
-        })?;
-    }
-    Ok(checks)
+        })
+        .collect(heap)
 }
 
 fn long_chain(heap: Global) -> Result<TableBook, Fail> {
@@ -44,10 +42,8 @@ fn long_chain(heap: Global) -> Result<TableBook, Fail> {
         checks: checks.as_slice(),
     };
     let mut book = TableBook::new(heap);
-    match fill_sheet(heap, &mut book, sheet)? {
-        Ok(()) => Ok(book),
-        Err(_) => Err(Fail::new("refused")),
-    }
+    fill_sheet(heap, &mut book, sheet)?.map_err(|_| Fail::new("refused"))?;
+    Ok(book)
 }
 
 // The first flip-flop is in domain 0 and each other one in this domain.
@@ -62,9 +58,7 @@ fn check_settled(rt: &impl Abort, book: &TableBook, case: &Case) {
     let (numerator, answer, domain) = *case;
     let mut list = [BEFORE; 256];
     assert_eq!(rt;
-        settle(book, numerator, 1, &mut list)
-            .map(numbers)
-            .map_err(SettleFault::number),
+        told(settle(book, numerator, 1, &mut list), SettleFault::number),
         answer,
         "{numerator}"
     );
@@ -74,9 +68,7 @@ fn check_settled(rt: &impl Abort, book: &TableBook, case: &Case) {
 fn check_scheduled(rt: &impl Abort, book: &TableBook) {
     let mut list = [BEFORE; 256];
     assert_eq!(rt;
-        schedule(book, &mut list)
-            .map(numbers)
-            .map_err(ScheduleFault::number),
+        told(schedule(book, &mut list), ScheduleFault::number),
         Ok((93, 1))
     );
     check_domains(rt, &list, 7);

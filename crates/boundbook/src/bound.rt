@@ -43,7 +43,7 @@ pub fn bind<A: Book, B: Book>(first: A, second: B) -> Result<Bound<A, B>, TooMan
     Ok(Bound { first, second })
 }
 
-// The book that has a check, with its place there.
+// The book that has a check, with its place there. An enum and no `Either`: the names say which book, and each arm asks one of another type.
 #[derive(Clone, Copy)]
 enum Side {
     First(usize),

@@ -27,6 +27,7 @@ impl LineFault {
     }
 }
 
+// Two conversions, since `?` makes one step: a list that is collected fails with the first, and a push hands its item back in the second.
 impl From<AllocError> for LineFault {
     ghost from_gives = { λ _ fault. fault ≡ Memory };
 

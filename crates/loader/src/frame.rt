@@ -90,7 +90,7 @@ fn parse(bytes: &[u8], heap: Global) -> Result<Frame, LineFault>
 {
     match bytes {
         [DOMAINS, q1, q0, count, skews @ ..] => {
-            if skews.len() != FIELD * *count as usize {
+            if skews.len() != FIELD * usize::from(*count) {
                 return Err(LineFault::Refused(Ground::Shape));
             }
             Ok(Frame::Domains {

@@ -44,6 +44,7 @@ fn read(text: &[u8], heap: Global) -> Result<Block, LoadError>
     ensures { TextRead result text.now (judge text.now) }
 {
     let mut assembly = Assembly::new(heap);
+    // Counted here, and not by `enumerate`: an end that is missing is charged to the number after the last.
     let mut number = 1;
     for line in text.split_inclusive(|b| *b == LINE_FEED) {
         assembly.take(line, heap).map_err(|fault| fault.at(number))?;

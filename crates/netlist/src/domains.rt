@@ -28,7 +28,7 @@ fn is_sound(parts: u16, skews: &[u16]) -> bool
         [0, ..] => {
             parts <= MOST_PARTS
                 && skews.len() <= MOST_DOMAINS
-                && skews[skews.len() - 1] < parts
+                && skews.last().is_some_and(|last| *last < parts)
                 && rises(skews)
         }
         _ => false,
@@ -45,6 +45,7 @@ impl DomainSet {
         if !is_sound(parts, skews) {
             return None;
         }
+        // Never more than fit, as was tested.
         let skews = ArrayVec::try_from(skews).ok()?;
         Some(DomainSet { parts, skews })
     }

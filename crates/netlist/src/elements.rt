@@ -141,7 +141,7 @@ impl Wire {
         self.delay
     }
 
-    // The same wire with another delay.
+    // Gives the wire another delay.
     pub(crate) fn set_delay(&mut self, delay: u16)
         ensures { wire_of self.new ≡ record { start = (wire_of self.old).start; end = (wire_of self.old).end; delay = delay } }
     {

@@ -25,7 +25,7 @@ impl Period {
 
     // The period of so many time units.
     #[tactic(auto, using(fractions::proofs::Lowest::coprime_one))]
-    fn whole(units: u64) -> Period
+    fn of_units(units: u64) -> Period
         requires { units ≤ most_num }
         ensures { fraction result ≡ whole units }
     {
@@ -38,13 +38,13 @@ impl Period {
     pub fn zero() -> Period
         ensures { fraction result ≡ whole 0 }
     {
-        Period::whole(0)
+        Period::of_units(0)
     }
 
     pub fn longest() -> Period
         ensures { fraction result ≡ whole most_num }
     {
-        Period::whole(MOST_NUMERATOR)
+        Period::of_units(MOST_NUMERATOR)
     }
 
     // The period that two numbers name, unless as written they are outside the limits. A call by name and no `TryFrom`, which would take a pair that
@@ -83,7 +83,7 @@ impl From<u32> for Period {
     ghost from_gives = { λ units p. fraction p ≡ whole units };
 
     fn from(units: u32) -> Period {
-        Period::whole(units as u64)
+        Period::of_units(units as u64)
     }
 }
 

@@ -33,7 +33,7 @@ turned row down k d low l =
 falling : (row : List ℕ) → NeverRises row → (i j : ℕ) → i ≤ j → j < length row → slice_index row j ≤ slice_index row i
 falling row down i j l h = falls _ _ (sorted_far (λ x y. ltb y x) (IsStrictWeakOrder-flip (λ x y. ltb x y) (IsStrictWeakOrder-by_number (λ x. x))) row (turned row down) i j 0 l h)
 
-lawful_from : (domains : ℕ) (rows : List (List ℕ)) → TableFits domains rows → All NeverRises rows → AllAdjacentBelow StaysUnder rows (length rows) → Lawful domains rows
+pub lawful_from : (domains : ℕ) (rows : List (List ℕ)) → TableFits domains rows → All NeverRises rows → AllAdjacentBelow StaysUnder rows (length rows) → Lawful domains rows
 lawful_from domains rows t down up =
     let columns : All (λ row. length row ≡ domains) rows = λ m d l. (All-from_get_or (RowFits domains) rows [] t.each_row m d l).columns in
     record {
@@ -43,11 +43,11 @@ lawful_from domains rows t down up =
           falling (get_or rows m []) (down m [] there) n higher l (subst (λ z. higher < z) (sym (columns m [] there)) h);
     }
 
-rows_from : (domains : ℕ) (rows : List (List ℕ)) → TableFits domains rows → Lawful domains rows → (m : ℕ) → m < length rows → NeverRises (get_or rows m [])
+pub rows_from : (domains : ℕ) (rows : List (List ℕ)) → TableFits domains rows → Lawful domains rows → (m : ℕ) → m < length rows → NeverRises (get_or rows m [])
 rows_from domains rows t law m l n h = law.never_rises m n (n + 1) (omega arith) (subst (λ z. m < z) t.row_count l) (subst (λ z. n + 1 < z) (columns_of domains rows t m (subst (λ z. m < z) t.row_count l)) h)
 
-columns_from : (domains : ℕ) (rows : List (List ℕ)) → TableFits domains rows → Lawful domains rows → (m : ℕ) → m + 1 < length rows → StaysUnder (get_or rows m []) (get_or rows (m + 1) [])
-columns_from domains rows t law m l n h k = law.never_falls m (m + 1) n (omega arith) (subst (λ z. m + 1 < z) t.row_count l) (subst (λ z. n < z) (columns_of domains rows t m (subst (λ z. m < z) t.row_count (omega arith))) h)
+pub columns_from : (domains : ℕ) (rows : List (List ℕ)) → TableFits domains rows → Lawful domains rows → (m : ℕ) → m + 1 < length rows → (n : ℕ) → n < length (get_or rows m []) → slice_index (get_or rows m []) n ≤ slice_index (get_or rows (m + 1) []) n
+columns_from domains rows t law m l n h = law.never_falls m (m + 1) n (omega arith) (subst (λ z. m + 1 < z) t.row_count l) (subst (λ z. n < z) (columns_of domains rows t m (subst (λ z. m < z) t.row_count (omega arith))) h)
 
 lawful_by_step : (domains : ℕ) (rows : List (Vec ℕ)) → TableFits domains (map vec_items rows) → LawfulByStep rows → Lawful domains (map vec_items rows)
 unfolding LawfulByStep
@@ -57,7 +57,7 @@ steps_of_lawful : (domains : ℕ) (rows : List (Vec ℕ)) → TableFits domains 
 unfolding LawfulByStep
 steps_of_lawful domains rows t law = (
   each_unmapped vec_items NeverRises rows [] (rows_from domains (map vec_items rows) t law),
-  neighbours_unmapped vec_items StaysUnder rows [] (columns_from domains (map vec_items rows) t law),
+  neighbours_unmapped vec_items StaysUnder rows [] (λ m l n h k. columns_from domains (map vec_items rows) t law m l n h),
 )
 
 -- the tables of a sheet within the limits

@@ -41,7 +41,7 @@ pub fn wire_figures(wire: &Wire) -> WireFigures {
 }
 
 // What is told of one kind of element or of the domains: so many, each with its figures, and none beyond them.
-pub fn check_elements<N: Debug, E, F: PartialEq + Debug + Copy, G: Fn(&E) -> F>(
+fn check_each<N: Debug, E, F: PartialEq + Debug + Copy, G: Fn(&E) -> F>(
     rt: &impl Abort,
     name: &N,
     elements: &[E],
@@ -63,7 +63,7 @@ pub fn check_elements<N: Debug, E, F: PartialEq + Debug + Copy, G: Fn(&E) -> F>(
 // The block of a case of this name holds these figures.
 pub fn check_block<N: Debug>(rt: &impl Abort, name: &N, block: &Block, figures: Figures) {
     assert_eq!(rt; block.parts(), figures.parts, "{name:?}: parts");
-    check_elements(
+    check_each(
         rt,
         &(name, "domains"),
         block.skews(),
@@ -71,7 +71,7 @@ pub fn check_block<N: Debug>(rt: &impl Abort, name: &N, block: &Block, figures: 
         figures.skews,
         MOST_DOMAINS,
     );
-    check_elements(
+    check_each(
         rt,
         &(name, "flip-flops"),
         block.flip_flops(),
@@ -79,7 +79,7 @@ pub fn check_block<N: Debug>(rt: &impl Abort, name: &N, block: &Block, figures: 
         figures.flops,
         MOST_FLIP_FLOPS,
     );
-    check_elements(
+    check_each(
         rt,
         &(name, "gates"),
         block.gates(),
@@ -87,7 +87,7 @@ pub fn check_block<N: Debug>(rt: &impl Abort, name: &N, block: &Block, figures: 
         figures.gates,
         MOST_GATES,
     );
-    check_elements(
+    check_each(
         rt,
         &(name, "wires"),
         block.wires(),

@@ -220,11 +220,17 @@ fn wire_in_text(n: u16) -> WireFigures {
     }
 }
 
+// So many elements, and none past the last.
+fn check_count<N: Debug, E>(rt: &impl Abort, name: &N, elements: &[E], count: usize) {
+    assert_eq!(rt; elements.len(), count, "{name:?}");
+    assert!(rt; elements.get(count).is_none(), "{name:?}");
+}
+
 fn check_sizes<N: Debug>(rt: &impl Abort, name: &N, block: &Block, sizes: Sizes) {
     let (flops, gates, wires) = sizes;
-    assert_eq!(rt; block.flip_flops().len(), flops as usize, "{name:?}");
-    assert_eq!(rt; block.gates().len(), gates as usize, "{name:?}");
-    assert_eq!(rt; block.wires().len(), wires as usize, "{name:?}");
+    check_count(rt, name, block.flip_flops(), usize::from(flops));
+    check_count(rt, name, block.gates(), usize::from(gates));
+    check_count(rt, name, block.wires(), usize::from(wires));
 }
 
 // The first elements of one kind, this many, are as the text has them.
@@ -238,9 +244,9 @@ fn check_first<N: Debug, E, F: PartialEq + Debug + Copy, G: Fn(&E) -> F, T: Fn(u
 )
     requires { G.IsAlwaysCallable figures × T.IsAlwaysCallable in_text }
 {
-    for n in 0..count {
-        let found = elements.get(n as usize).map(|element| figures(element));
-        assert_eq!(rt; found, Some(in_text(n)), "{name:?}: {n}");
+    assert!(rt; elements.len() >= usize::from(count), "{name:?}");
+    for (n, element) in (0..count).zip(elements) {
+        assert_eq!(rt; figures(element), in_text(n), "{name:?}: {n}");
     }
 }
 
