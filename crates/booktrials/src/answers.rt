@@ -23,7 +23,23 @@ pub fn told<E, F: FnOnce(E) -> u8>(answer: Result<Period, E>, number: F) -> Answ
     answer.map(numbers).map_err(number)
 }
 
-// Schedules with a list as long as the one that is to come out; what fails is told by the name.
+// Makes a call with a list as long as the one that is to come out; what fails is told by the name and the case.
+fn check_call<F: FnOnce(&mut [u8]) -> Answer>(
+    rt: &impl Abort,
+    heap: Global,
+    name: (&str, u64),
+    call: F,
+    answer: Answer,
+    after: &[u8],
+) -> Result<(), Fail>
+    requires { F.IsAlwaysCallable call }
+{
+    let mut list = vec![in heap; BEFORE; after.len()]?;
+    let found = call(list.as_mut_slice());
+    assert_eq!(rt; (found, list.as_slice()), (answer, after), "{name:?}");
+    Ok(())
+}
+
 pub fn check_schedule<B: Book>(
     rt: &impl Abort,
     heap: Global,
@@ -32,13 +48,10 @@ pub fn check_schedule<B: Book>(
     answer: Answer,
     after: &[u8],
 ) -> Result<(), Fail> {
-    let mut list = vec![in heap; BEFORE; after.len()]?;
-    let found = told(schedule(book, list.as_mut_slice()), ScheduleFault::number);
-    assert_eq!(rt; (found, list.as_slice()), (answer, after), "{name}");
-    Ok(())
+    let call = |list: &mut [u8]| told(schedule(book, list), ScheduleFault::number);
+    check_call(rt, heap, (name, 0), call, answer, after)
 }
 
-// Settles with a list as long as the one that is to come out.
 fn check_settlement<B: Book>(
     rt: &impl Abort,
     heap: Global,
@@ -47,17 +60,13 @@ fn check_settlement<B: Book>(
     case: &Settlement,
 ) -> Result<(), Fail> {
     let (numerator, denominator, answer, after) = *case;
-    let mut list = vec![in heap; BEFORE; after.len()]?;
-    let found = told(
-        settle(book, numerator, denominator, list.as_mut_slice()),
-        SettleFault::number,
-    );
-    assert_eq!(rt;
-        (found, list.as_slice()),
-        (answer, after),
-        "{name}: {numerator}"
-    );
-    Ok(())
+    let call = |list: &mut [u8]| {
+        told(
+            settle(book, numerator, denominator, list),
+            SettleFault::number,
+        )
+    };
+    check_call(rt, heap, (name, numerator), call, answer, after)
 }
 
 pub fn check_settlements<B: Book>(

@@ -188,6 +188,7 @@ const WHOLE_SETTLED: &[Both] = &[
     (7, 4_096, Err(12), [9, 9, 9, 9]),
 ];
 
+// Apart from the next: one that took the call as a parameter would be given two books, two lists and the call for as many lines.
 fn check_both_settled<A: Book, B: Book>(rt: &impl Abort, first: &A, second: &B, case: &Both) {
     let (numerator, denominator, answer, after) = *case;
     let mut one = [BEFORE; 4];

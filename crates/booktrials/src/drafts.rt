@@ -26,6 +26,7 @@ pub type Filling = Result<(), u8>;
 
 pub const FILLED: Filling = Ok(());
 
+// Two loops: tried as chains that are collected, and a closure that passes a `'static` list on was not proved.
 fn rows_of(heap: Global, table: Table) -> Result<Vec<Vec<u32>>, AllocError> {
     let mut rows = Vec::new(heap);
     for row in table {
@@ -64,7 +65,7 @@ pub fn fill_sheet(heap: Global, book: &mut TableBook, sheet: Sheet<'_>) -> Resul
     }
 }
 
-// Fills a book with a draft, its checks from first to last or, turned, from last to first.
+// Fills a book with a draft, its checks from first to last or, turned, from last to first. A flag: of two closures one would do nothing.
 pub fn fill(
     heap: Global,
     book: &mut TableBook,

@@ -54,6 +54,7 @@ fn check_domains(rt: &impl Abort, list: &[u8], domain: u8) {
     }
 }
 
+// Apart from the next, which has no case: what they share is `check_domains`.
 fn check_settled(rt: &impl Abort, book: &TableBook, case: &Case) {
     let (numerator, answer, domain) = *case;
     let mut list = [BEFORE; 256];
