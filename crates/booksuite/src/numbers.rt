@@ -16,8 +16,8 @@ impl<'a> Numbers<'a> {
         }
     }
 
-    // The next number, the largest where a word is none or does not fit, and 0 past the last: with no count nothing more is read, so that no
-    // `Option` has to be taken apart at each number.
+    // The next number, the largest where a word is none or does not fit, and 0 past the last, so that a text that ends early counts nothing
+    // more; an `Option` would be taken apart at each field.
     pub fn number(&mut self) -> u64 {
         match self.words.next() {
             Some(word) => word.parse().unwrap_or(u64::MAX),

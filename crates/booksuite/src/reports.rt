@@ -19,48 +19,33 @@ fn print_list(rt: &HostRuntime, list: &[u8]) -> anyhow::Result<()> {
 }
 
 // What a call answers, a period or the number of a refusal, and the list after it.
-fn print_answer<E, F: FnOnce(E) -> u8>(
+fn print_answer(
     rt: &HostRuntime,
     call: &str,
-    answer: Result<Period, E>,
-    number: F,
+    answer: Result<Period, u8>,
     list: &[u8],
-) -> anyhow::Result<()>
-    requires { F.IsAlwaysCallable number }
-{
-    match answer.map_err(number) {
+) -> anyhow::Result<()> {
+    match answer {
         Ok(period) => print!(rt; "{call} {period}")?,
         Err(number) => print!(rt; "{call} refused {number}")?,
     }
     print_list(rt, list)
 }
 
-fn report_schedule<A: Book, B: Book>(
+// What a call answers for two books, and their lists after it.
+fn print_both<E: Drop, F: Fn(E) -> u8>(
     rt: &HostRuntime,
-    first: &A,
-    second: &B,
-    one: &mut [u8],
-    other: &mut [u8],
-) -> anyhow::Result<()> {
-    let (answer, again) = schedule_both(first, second, one, other);
-    print_answer(rt, "schedule", answer, ScheduleFault::number, one)?;
-    print_answer(rt, "schedule", again, ScheduleFault::number, other)
-}
-
-fn report_settlement<A: Book, B: Book>(
-    rt: &HostRuntime,
-    first: &A,
-    second: &B,
-    period: (u64, u64),
-    one: &mut [u8],
-    other: &mut [u8],
-) -> anyhow::Result<()> {
-    one.fill(UNTOUCHED);
-    other.fill(UNTOUCHED);
-    let (numerator, denominator) = period;
-    let (answer, again) = settle_both(first, second, numerator, denominator, one, other);
-    print_answer(rt, "settle", answer, SettleFault::number, one)?;
-    print_answer(rt, "settle", again, SettleFault::number, other)
+    call: &str,
+    answers: (Result<Period, E>, Result<Period, E>),
+    number: F,
+    lists: (&[u8], &[u8]),
+) -> anyhow::Result<()>
+    requires { F.IsAlwaysCallable number }
+{
+    let (answer, again) = answers;
+    let (one, other) = lists;
+    print_answer(rt, call, answer.map_err(|fault| number(fault)), one)?;
+    print_answer(rt, call, again.map_err(|fault| number(fault)), other)
 }
 
 fn report_books<A: Book, B: Book>(
@@ -70,18 +55,17 @@ fn report_books<A: Book, B: Book>(
     second: &B,
     periods: &[(u64, u64)],
 ) -> anyhow::Result<()> {
-    let mut one = vec![in heap; UNTOUCHED; first.flops()]?;
-    let mut other = vec![in heap; UNTOUCHED; second.flops()]?;
-    report_schedule(rt, first, second, one.as_mut_slice(), other.as_mut_slice())?;
-    for period in periods {
-        report_settlement(
-            rt,
-            first,
-            second,
-            *period,
-            one.as_mut_slice(),
-            other.as_mut_slice(),
-        )?;
+    let mut one_list = vec![in heap; UNTOUCHED; first.flops()]?;
+    let mut other_list = vec![in heap; UNTOUCHED; second.flops()]?;
+    let one = one_list.as_mut_slice();
+    let other = other_list.as_mut_slice();
+    let answers = schedule_both(first, second, one, other);
+    print_both(rt, "schedule", answers, ScheduleFault::number, (one, other))?;
+    for &(numerator, denominator) in periods {
+        one.fill(UNTOUCHED);
+        other.fill(UNTOUCHED);
+        let answers = settle_both(first, second, numerator, denominator, one, other);
+        print_both(rt, "settle", answers, SettleFault::number, (one, other))?;
     }
     Ok(())
 }

@@ -4,6 +4,7 @@ use books::Book;
 use engine::{ScheduleFault, SettleFault, schedule, settle};
 use period::Period;
 use std::alloc::Global;
+use std::fmt::Debug;
 use std::process::Abort;
 use std::test::Fail;
 
@@ -23,11 +24,11 @@ pub fn told<E, F: FnOnce(E) -> u8>(answer: Result<Period, E>, number: F) -> Answ
     answer.map(numbers).map_err(number)
 }
 
-// Makes a call with a list as long as the one that is to come out; what fails is told by the name and the case.
-fn check_call<F: FnOnce(&mut [u8]) -> Answer>(
+// Makes a call with a list as long as the one that is to come out; what fails is told by the name.
+pub fn check_call<N: Debug, F: FnOnce(&mut [u8]) -> Answer>(
     rt: &impl Abort,
     heap: Global,
-    name: (&str, u64),
+    name: &N,
     call: F,
     answer: Answer,
     after: &[u8],
@@ -49,7 +50,7 @@ pub fn check_schedule<B: Book>(
     after: &[u8],
 ) -> Result<(), Fail> {
     let call = |list: &mut [u8]| told(schedule(book, list), ScheduleFault::number);
-    check_call(rt, heap, (name, 0), call, answer, after)
+    check_call(rt, heap, &name, call, answer, after)
 }
 
 fn check_settlement<B: Book>(
@@ -66,7 +67,7 @@ fn check_settlement<B: Book>(
             SettleFault::number,
         )
     };
-    check_call(rt, heap, (name, numerator), call, answer, after)
+    check_call(rt, heap, &(name, numerator), call, answer, after)
 }
 
 pub fn check_settlements<B: Book>(

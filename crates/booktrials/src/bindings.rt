@@ -6,6 +6,7 @@ use books::Book;
 use boundbook::{Bound, TooManyChecks, bind};
 use engine::{ScheduleFault, SettleFault, schedule_both, settle_both};
 use std::alloc::Global;
+use std::fmt::Debug;
 use std::process::Abort;
 use std::test::Fail;
 use tablebook::TableBook;
@@ -127,10 +128,8 @@ fn bind_repeated(
 // 100,000 checks together.
 #[test]
 fn most_checks(rt: HostRuntime) -> Result<(), Fail> {
-    match bind_repeated(rt.alloc(), 34_464)? {
-        Ok(book) => check_most(&rt, rt.alloc(), &book),
-        Err(_) => Err(Fail::new("refused")),
-    }
+    let book = bind_repeated(rt.alloc(), 34_464)?.map_err(|_| Fail::new("refused"))?;
+    check_most(&rt, rt.alloc(), &book)
 }
 
 // Both books come back.
@@ -188,32 +187,47 @@ const WHOLE_SETTLED: &[Both] = &[
     (7, 4_096, Err(12), [9, 9, 9, 9]),
 ];
 
-// Apart from the next: one that took the call as a parameter would be given two books, two lists and the call for as many lines.
-fn check_both_settled<A: Book, B: Book>(rt: &impl Abort, first: &A, second: &B, case: &Both) {
-    let (numerator, denominator, answer, after) = *case;
+// A call on two books answers the same of both, and leaves the same list.
+fn check_pair<N: Debug, F: FnOnce(&mut [u8], &mut [u8]) -> (Answer, Answer)>(
+    rt: &impl Abort,
+    name: &N,
+    call: F,
+    answer: Answer,
+    after: [u8; 4],
+)
+    requires { F.IsAlwaysCallable call }
+{
     let mut one = [BEFORE; 4];
     let mut other = [BEFORE; 4];
-    let (here, there) = settle_both(first, second, numerator, denominator, &mut one, &mut other);
-    let found = (
-        told(here, SettleFault::number),
-        told(there, SettleFault::number),
-        one,
-        other,
+    let answers = call(&mut one, &mut other);
+    assert_eq!(rt;
+        (answers, one, other),
+        ((answer, answer), after, after),
+        "{name:?}"
     );
-    assert_eq!(rt; found, (answer, answer, after, after), "{numerator}");
+}
+
+fn check_both_settled<A: Book, B: Book>(rt: &impl Abort, first: &A, second: &B, case: &Both) {
+    let (numerator, denominator, answer, after) = *case;
+    let call = |one: &mut [u8], other: &mut [u8]| {
+        let (here, there) = settle_both(first, second, numerator, denominator, one, other);
+        (
+            told(here, SettleFault::number),
+            told(there, SettleFault::number),
+        )
+    };
+    check_pair(rt, &numerator, call, answer, after);
 }
 
 fn check_both_scheduled<A: Book, B: Book>(rt: &impl Abort, first: &A, second: &B) {
-    let mut one = [BEFORE; 4];
-    let mut other = [BEFORE; 4];
-    let (here, there) = schedule_both(first, second, &mut one, &mut other);
-    let found = (
-        told(here, ScheduleFault::number),
-        told(there, ScheduleFault::number),
-        one,
-        other,
-    );
-    assert_eq!(rt; found, (Ok((7, 1)), Ok((7, 1)), [0, 2, 2, 2], [0, 2, 2, 2]));
+    let call = |one: &mut [u8], other: &mut [u8]| {
+        let (here, there) = schedule_both(first, second, one, other);
+        (
+            told(here, ScheduleFault::number),
+            told(there, ScheduleFault::number),
+        )
+    };
+    check_pair(rt, &"scheduled", call, Ok((7, 1)), [0, 2, 2, 2]);
 }
 
 fn check_both<A: Book, B: Book>(rt: &impl Abort, first: &A, second: &B) {

@@ -71,6 +71,7 @@ impl Book for ConstantBook {
         Period::zero()
     }
 
+    // By `if`, here and below: tried with `then`, and the proof did not close.
     fn ends(&self, place: usize) -> Option<Ends> {
         if place < self.links() {
             Some(Ends {

@@ -84,11 +84,21 @@ pub fn fill(
     fill_sheet(heap, book, sheet)
 }
 
+// A new book, filled.
+pub fn made<F: FnOnce(&mut TableBook) -> Result<Filling, Fail>>(
+    heap: Global,
+    fill: F,
+) -> Result<TableBook, Fail>
+    requires { F.IsAlwaysCallable fill }
+{
+    let mut book = TableBook::new(heap);
+    fill(&mut book)?.map_err(|_| Fail::new("refused"))?;
+    Ok(book)
+}
+
 // A new book that holds a draft.
 pub fn filled(heap: Global, draft: Draft, turned: bool) -> Result<TableBook, Fail> {
-    let mut book = TableBook::new(heap);
-    fill(heap, &mut book, draft, turned)?.map_err(|_| Fail::new("refused"))?;
-    Ok(book)
+    made(heap, |book| fill(heap, book, draft, turned))
 }
 
 // Fills a book with so many checks from flip-flop 0 to flip-flop 1, all with the table 10 4 / 12 10.
@@ -112,9 +122,7 @@ pub fn fill_repeated(heap: Global, book: &mut TableBook, count: usize) -> Result
 
 // A new book with so many checks.
 pub fn repeated(heap: Global, count: usize) -> Result<TableBook, Fail> {
-    let mut book = TableBook::new(heap);
-    fill_repeated(heap, &mut book, count)?.map_err(|_| Fail::new("refused"))?;
-    Ok(book)
+    made(heap, |book| fill_repeated(heap, book, count))
 }
 
 // A period by its two numbers.

@@ -1,8 +1,8 @@
 // The largest number of flip-flops and of domains.
-use crate::answers::{Answer, BEFORE, told};
-use crate::drafts::{fill_sheet, tables_of};
+use crate::answers::{Answer, check_call, check_schedule, told};
+use crate::drafts::{fill_sheet, made, tables_of};
 use crate::fills::EIGHT;
-use engine::{ScheduleFault, SettleFault, schedule, settle};
+use engine::{SettleFault, settle};
 use std::alloc::{AllocError, Global};
 use std::process::Abort;
 use std::test::Fail;
@@ -41,50 +41,32 @@ fn long_chain(heap: Global) -> Result<TableBook, Fail> {
         tables: tables.as_slice(),
         checks: checks.as_slice(),
     };
-    let mut book = TableBook::new(heap);
-    fill_sheet(heap, &mut book, sheet)?.map_err(|_| Fail::new("refused"))?;
-    Ok(book)
+    made(heap, |book| fill_sheet(heap, book, sheet))
 }
 
-// The first flip-flop is in domain 0 and each other one in this domain.
-fn check_domains(rt: &impl Abort, list: &[u8], domain: u8) {
-    for (flop, found) in list.iter().enumerate() {
-        let expected = if flop == 0 { 0 } else { domain };
-        assert_eq!(rt; *found, expected, "{}", flop);
-    }
+// The first flip-flop in domain 0 and each other one in this domain.
+fn list_of(domain: u8) -> [u8; 256] {
+    let mut list = [domain; 256];
+    list[0] = 0;
+    list
 }
 
-// Apart from the next, which has no case: what they share is `check_domains`.
-fn check_settled(rt: &impl Abort, book: &TableBook, case: &Case) {
+fn check_settled(rt: &impl Abort, heap: Global, book: &TableBook, case: &Case) -> Result<(), Fail> {
     let (numerator, answer, domain) = *case;
-    let mut list = [BEFORE; 256];
-    assert_eq!(rt;
-        told(settle(book, numerator, 1, &mut list), SettleFault::number),
-        answer,
-        "{numerator}"
-    );
-    check_domains(rt, &list, domain);
+    let call = |list: &mut [u8]| told(settle(book, numerator, 1, list), SettleFault::number);
+    check_call(rt, heap, &numerator, call, answer, &list_of(domain))
 }
 
-fn check_scheduled(rt: &impl Abort, book: &TableBook) {
-    let mut list = [BEFORE; 256];
-    assert_eq!(rt;
-        told(schedule(book, &mut list), ScheduleFault::number),
-        Ok((93, 1))
-    );
-    check_domains(rt, &list, 7);
-}
-
-fn check_chain(rt: &impl Abort, book: &TableBook) {
-    check_scheduled(rt, book);
+fn check_chain(rt: &impl Abort, heap: Global, book: &TableBook) -> Result<(), Fail> {
+    check_schedule(rt, heap, "chain", book, Ok((93, 1)), &list_of(7))?;
     for case in CASES {
-        check_settled(rt, book, case);
+        check_settled(rt, heap, book, case)?;
     }
+    Ok(())
 }
 
 #[test]
 fn chain(rt: HostRuntime) -> Result<(), Fail> {
     let book = long_chain(rt.alloc())?;
-    check_chain(&rt, &book);
-    Ok(())
+    check_chain(&rt, rt.alloc(), &book)
 }

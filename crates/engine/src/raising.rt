@@ -90,6 +90,7 @@ fn raise<B: Book>(book: &B) -> Best
         period: Period::longest(),
         domains: current,
     };
+    // A rule of the project: the loop breaks, with the best, from inside the scan for a worst check. The scan goes by place, since a book has no iterator.
     'raise: loop {
         let mut worst = Worst {
             period: book.floor(),

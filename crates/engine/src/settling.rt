@@ -54,7 +54,7 @@ fn pass<B: Book>(book: &B, period: Period, domains: &mut [u8]) -> Result<bool, S
     let count = book.domains();
     let mut raised = false;
     for place in 0..book.checks() {
-        // At each place below the count there is a check.
+        // At each place below the count there is a check; a book has no iterator over them.
         let Some(need) = need_under(book, place, domains) else {
             break;
         };

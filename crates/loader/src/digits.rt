@@ -17,7 +17,7 @@ const TEN: u8 = 10;
 // The digits of a byte.
 const PAIR: usize = 2;
 
-// The value of a hexadecimal digit.
+// The value of a hexadecimal digit. By hand: the library reads capitals and signs too, which no dump may hold.
 fn value(digit: u8) -> Result<u8, LineFault>
     ensures { MatchResult result (λ v. value digit ≡ Some v) (λ e. Misspelled e (value digit)) }
 {

@@ -10,8 +10,7 @@ use dumps::Ground;
 use netlist::Terminal;
 use std::alloc::{AllocError, Global};
 
-// A frame begins with the byte of its kind.
-// The kind bytes. Constants, and no discriminants of `Kind`: a rule of the project has a frame taken apart by one slice pattern, kind byte first, and a
+// The byte of its kind, with which a frame begins. Constants, and no discriminants of `Kind`: a rule of the project has a frame taken apart by one slice pattern, kind byte first, and a
 // pattern names constants.
 const DOMAINS: u8 = 0x01;
 

@@ -77,6 +77,8 @@ impl Block {
         self.draft.wires.as_slice()
     }
 
+    // The three changes, as in the draft: each takes figures of its own.
+
     // Replaces the delays of one gate.
     pub fn change_gate(
         &mut self,

@@ -1,13 +1,14 @@
 // Blocks at their limits and one past them.
-use crate::figures::{EMPTY, WireFigures, check_block, flop_figures, gate_figures, wire_figures};
+use crate::figures::{WireFigures, flop_figures, gate_figures, wire_figures};
 use crate::loads::verdict;
+use crate::refusals::check_refused;
 use netlist::{Block, ChangeFault, Place};
 use std::alloc::Global;
 use std::fmt::{Debug, Write};
 use std::process::Abort;
 use std::test::Fail;
 
-// How many flip-flops, gates and wires a text begins with.
+// How many flip-flops, gates and wires a text begins with: a triple, since the tables below write some forty of them.
 type Sizes = (u16, u16, u16);
 
 // A name, the sizes, the text that follows, and the number and the line of the refusal.
@@ -198,13 +199,7 @@ fn check_refusals(rt: &impl Abort, heap: Global, cases: &[Case]) -> Result<(), F
     for (name, sizes, tail, number, line) in cases {
         let text = grown(heap, *sizes, tail)?;
         let mut block = Block::new(heap);
-        assert_eq!(rt;
-            verdict(text.as_str(), heap, &mut block)?,
-            Some((*number, *line)),
-            "{}",
-            *name
-        );
-        check_block(rt, name, &block, EMPTY);
+        check_refused(rt, heap, name, &mut block, text.as_str(), (*number, *line))?;
     }
     Ok(())
 }

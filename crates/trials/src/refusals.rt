@@ -7,7 +7,7 @@ mod shape;
 mod spelling;
 
 use crate::figures::{EMPTY, check_block};
-use crate::loads::verdict;
+use crate::loads::{Refusal, verdict};
 use netlist::Block;
 use std::alloc::Global;
 use std::process::Abort;
@@ -25,17 +25,25 @@ const FILLED: &str = "\
 040100000000000004\n\
 05\n";
 
+// A text is refused like this, and leaves the empty block.
+pub fn check_refused(
+    rt: &impl Abort,
+    heap: Global,
+    name: &str,
+    block: &mut Block,
+    text: &str,
+    refusal: Refusal,
+) -> Result<(), Fail> {
+    assert_eq!(rt; verdict(text, heap, block)?, Some(refusal), "{name}");
+    check_block(rt, &name, block, EMPTY);
+    Ok(())
+}
+
 pub fn check_refusals(rt: &impl Abort, heap: Global, cases: &[Case]) -> Result<(), Fail> {
     for (name, text, number, line) in cases {
         let mut block = Block::new(heap);
         assert_eq!(rt; verdict(FILLED, heap, &mut block)?, None, "{}", *name);
-        assert_eq!(rt;
-            verdict(text, heap, &mut block)?,
-            Some((*number, *line)),
-            "{}",
-            *name
-        );
-        check_block(rt, name, &block, EMPTY);
+        check_refused(rt, heap, name, &mut block, text, (*number, *line))?;
     }
     Ok(())
 }

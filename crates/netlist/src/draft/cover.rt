@@ -28,7 +28,7 @@ impl Draft {
     fn is_joined_up(&self) -> bool
         ensures { IsTrue result ↔ Covered (drafted self.now) }
     {
-        // Arrays of a fixed size, and no `Vec`: `close` cannot fail for want of memory.
+        // Arrays of a fixed size: a `Vec` may want memory, which `close` does not tell, and an `ArrayVec` would first be filled with a mark for each gate.
         let mut fed = [false; MOST_GATES];
         let mut drained = [false; MOST_GATES];
         let wires = self.wires.as_slice();
