@@ -1,5 +1,5 @@
 #!/bin/sh
-# Lists, point by point, the lines of src/ where an older form may stand, with their number.
+# Lists the lines of src/ where an older form may stand, by kind, with their number. docs/DESIGN-PASS.md says what came of them.
 # Usage: tools/places.sh [-c]   (-c: the numbers alone). A listed line is a place to look, no verdict.
 cd "$(dirname "$0")/.." || exit 1
 LIST=1
@@ -13,19 +13,19 @@ places() {
     [ $LIST = 1 ] && printf '%s\n' "$found" | sed 's/^/    /'
 }
 
-places "1 own enums, and numbers that stand for a kind or a case" 'enum [A-Z]|const [A-Z_]+: (\(u8|u8 = [0-9])|fn [a-z_]+.*-> .*\(u8|^ +_? ?[A-Za-z:]+ => (Some\()?[0-9]+\)?,'
-places "3 loops that count" '^ *(.[a-z]+: )?(for [^{]* in [^{]*\.\.|while [^l]|while let Some|loop )|\.enumerate\(\)'
-places "4 conversion, comparison and printing by hand" 'impl.* (PartialEq|PartialOrd|Ord|Clone|Copy|From<.*>|TryFrom<.*>|(fmt::)?Display) for|fn (whole|reason|cmp|copy_[a-z]+|value|of_error|of_block|skew_list|rows_of|tables_of|checks_of)\b'
-places "5 facts asked of a parameter" 'requires \{'
-places "6 arrays with a length beside them, and positions in a text" '\[[a-z0-9]+; [A-Z_]+\]|^ *(count|at): usize'
-places "7 switches on a step, and functions as values" 'match (self\.side|change|frame)|: fn\(|dyn |Fn(Once|Mut)?\('
+places "own enums, and numbers that stand for a kind or a case" 'enum [A-Z]|const [A-Z_]+: (\(u8|u8 = [0-9])|fn [a-z_]+.*-> .*\(u8|^ +_? ?[A-Za-z:]+ => (Some\()?[0-9]+\)?,'
+places "loops that count" '^ *(.[a-z]+: )?(for [^{]* in [^{]*\.\.|while [^l]|while let Some|loop )|\.enumerate\(\)'
+places "conversion, comparison and printing by hand" 'impl.* (PartialEq|PartialOrd|Ord|Clone|Copy|From<.*>|TryFrom<.*>|(fmt::)?Display) for|fn (whole|reason|cmp|copy_[a-z]+|value|of_error|of_block|skew_list|rows_of|tables_of|checks_of)\b'
+places "facts asked of a parameter" 'requires \{'
+places "arrays with a length beside them, and positions in a text" '\[[a-z0-9]+; [A-Z_]+\]|^ *(count|at): usize'
+places "switches on a step, and functions as values" 'match (self\.side|change|frame)|: fn\(|dyn |Fn(Once|Mut)?\('
 
-echo "2 signatures that stand more than once (number, signature)"
+echo "signatures that stand more than once (number, signature)"
 grep -rhE '^ *(pub(\(crate\))? )?fn ' crates/*/src \
     | sed -E 's/^ *//; s/pub(\(crate\))? //; s/fn [a-z_]+/fn/; s/ \{$//' \
     | grep -v 'HostRuntime' | sort | uniq -c | sort -rn | awk '$1 > 1 { $1 = $1; print }'
 
-printf '8 files of proofs: %s, of them answers and invariants: %s; lines: %s\n' \
+printf 'files of proofs: %s, of them answers and invariants: %s; lines: %s\n' \
     "$(find crates/*/proofs -name '*.antt' | wc -l)" \
     "$(find crates/*/proofs -name Answers.antt -o -name Invariants.antt | grep -c proofs)" \
     "$(find crates/*/proofs -name '*.antt' -exec cat {} + | wc -l)"
