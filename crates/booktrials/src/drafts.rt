@@ -85,7 +85,7 @@ pub fn fill(
 }
 
 // A new book, filled.
-pub fn made<F: FnOnce(&mut TableBook) -> Result<Filling, Fail>>(
+pub fn filled_by<F: FnOnce(&mut TableBook) -> Result<Filling, Fail>>(
     heap: Global,
     fill: F,
 ) -> Result<TableBook, Fail>
@@ -98,7 +98,7 @@ pub fn made<F: FnOnce(&mut TableBook) -> Result<Filling, Fail>>(
 
 // A new book that holds a draft.
 pub fn filled(heap: Global, draft: Draft, turned: bool) -> Result<TableBook, Fail> {
-    made(heap, |book| fill(heap, book, draft, turned))
+    filled_by(heap, |book| fill(heap, book, draft, turned))
 }
 
 // Fills a book with so many checks from flip-flop 0 to flip-flop 1, all with the table 10 4 / 12 10.
@@ -122,7 +122,7 @@ pub fn fill_repeated(heap: Global, book: &mut TableBook, count: usize) -> Result
 
 // A new book with so many checks.
 pub fn repeated(heap: Global, count: usize) -> Result<TableBook, Fail> {
-    made(heap, |book| fill_repeated(heap, book, count))
+    filled_by(heap, |book| fill_repeated(heap, book, count))
 }
 
 // A period by its two numbers.

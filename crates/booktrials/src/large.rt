@@ -1,6 +1,6 @@
 // The largest number of flip-flops and of domains.
 use crate::answers::{Answer, check_call, check_schedule, told};
-use crate::drafts::{fill_sheet, made, tables_of};
+use crate::drafts::{fill_sheet, filled_by, tables_of};
 use crate::fills::EIGHT;
 use engine::{SettleFault, settle};
 use std::alloc::{AllocError, Global};
@@ -41,7 +41,7 @@ fn long_chain(heap: Global) -> Result<TableBook, Fail> {
         tables: tables.as_slice(),
         checks: checks.as_slice(),
     };
-    made(heap, |book| fill_sheet(heap, book, sheet))
+    filled_by(heap, |book| fill_sheet(heap, book, sheet))
 }
 
 // The first flip-flop in domain 0 and each other one in this domain.

@@ -27,7 +27,7 @@ pub fn schedule<B: Book>(book: &B, domains: &mut [u8]) -> Result<Period, Schedul
 }
 
 // The shortest period so far and the assignment of it, with domain 0 past the last flip-flop.
-// An array, as an assignment in the definitions is: zeros follow the last flip-flop, so that no length stands beside it, and nothing is allocated.
+// An array, as an assignment in the definitions is a list with zeros behind it: no length stands beside it, and nothing is allocated.
 #[derive(Clone, Copy)]
 struct Best {
     period: Period,

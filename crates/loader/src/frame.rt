@@ -10,8 +10,8 @@ use dumps::Ground;
 use netlist::Terminal;
 use std::alloc::{AllocError, Global};
 
-// The byte of its kind, with which a frame begins. Constants, and no discriminants of `Kind`: a rule of the project has a frame taken apart by one slice pattern, kind byte first, and a
-// pattern names constants.
+// The byte of its kind, with which a frame begins. Constants, and no discriminants of `Kind`: a rule of the project has a frame taken apart
+// by one slice pattern, kind byte first, and a pattern names constants.
 const DOMAINS: u8 = 0x01;
 
 const FLIP_FLOP: u8 = 0x02;

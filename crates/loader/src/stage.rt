@@ -6,7 +6,8 @@ use crate::faults::LineFault;
 use crate::frame::Kind;
 use dumps::Ground;
 
-// The kind of the last frame. No Option<Kind>: a rule of the project has the loader match its own stage and the frame kind together and move the stage in place.
+// The kind of the last frame. No Option<Kind>: a rule of the project has the loader match its own stage and the frame kind together and move
+// the stage in place.
 #[derive(Clone, Copy)]
 pub enum Stage {
     Start,
