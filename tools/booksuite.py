@@ -161,6 +161,10 @@ EXAMPLES = [
 ]
 
 
+# What may stand between two numbers besides a blank: any bytes but digits.
+BETWEEN = [b",", b"; ", b" -", b"\t+", b" / x", b"\r\n", b"\0", b"\xff", b"."]
+
+
 def main():
     chance = random.Random(20)
     books = [(book, answers(book)) for book in EXAMPLES] + [(CHAIN, CHAIN_ANSWERS)]
@@ -169,10 +173,11 @@ def main():
         if chance.random() < 0.4:
             book = spoilt(chance, book)
         books.append((book, answers(book)))
-    with open(sys.argv[1], "w") as texts, open(sys.argv[2], "w") as expected:
-        texts.write(f"{len(books)}\n")
-        for book, lines in books:
-            texts.write(" ".join(str(n) for n in book.numbers()) + "\n")
+    written = [(book, lines, b" ") for book, lines in books] + [(*books[0], between) for between in BETWEEN]
+    with open(sys.argv[1], "wb") as texts, open(sys.argv[2], "w") as expected:
+        texts.write(b"%d\n" % len(written))
+        for book, lines, between in written:
+            texts.write(between.join(b"%d" % n for n in book.numbers()) + b"\n")
             expected.write("\n".join(lines) + "\n")
 
 

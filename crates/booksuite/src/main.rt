@@ -13,9 +13,9 @@ use std::io::Read;
 
 fn run(rt: &HostRuntime) -> anyhow::Result<()> {
     let heap = rt.alloc();
-    let mut input = String::new(heap);
-    rt.stdin().read_to_string(&mut input)?;
-    let mut numbers = Numbers::new(input.as_str());
+    let mut input = Vec::new(heap);
+    rt.stdin().read_to_end(&mut input)?;
+    let mut numbers = Numbers::new(input.as_slice());
     for _ in 0..numbers.number() {
         let case = Case::read(&mut numbers, heap)?;
         report_case(rt, heap, &case)?;

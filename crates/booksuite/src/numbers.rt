@@ -1,28 +1,40 @@
 // Books as decimal numbers.
 use std::alloc::{AllocError, Global};
-use std::str::SplitWhitespace;
 use tablebook::TableCheck;
 
-// The numbers of a text, in turn.
+const BASE: u64 = 10;
+
+// The numbers of a text, in turn. A number is a run of digits, and any other byte stands between two.
 #[derive(Drop)]
 pub struct Numbers<'a> {
-    words: SplitWhitespace<'a>,
+    rest: &'a [u8],
 }
 
 impl<'a> Numbers<'a> {
-    pub fn new(text: &'a str) -> Numbers<'a> {
-        Numbers {
-            words: text.split_whitespace(),
-        }
+    pub fn new(text: &'a [u8]) -> Numbers<'a> {
+        Numbers { rest: text }
     }
 
-    // The next number, the largest where a word is none or does not fit, and 0 past the last, so that a text that ends early counts nothing
-    // more; an `Option` would be taken apart at each field.
+    // The next number, as far as it fits, and 0 past the last one, so that a text that ends early counts nothing more; an `Option` would be taken
+    // apart at each field.
     pub fn number(&mut self) -> u64 {
-        match self.words.next() {
-            Some(word) => word.parse().unwrap_or(u64::MAX),
-            None => 0,
+        let rest = self.rest;
+        let mut value: Option<u64> = None;
+        for (at, byte) in rest.iter().enumerate() {
+            match (byte, value) {
+                (b'0'..=b'9', _) => {
+                    let tens = value.unwrap_or(0).saturating_mul(BASE);
+                    value = Some(tens.saturating_add(u64::from(*byte - b'0')));
+                }
+                (_, Some(number)) => {
+                    self.rest = &rest[at..];
+                    return number;
+                }
+                (_, None) => {}
+            }
         }
+        self.rest = &rest[rest.len()..];
+        value.unwrap_or(0)
     }
 }
 

@@ -10,7 +10,7 @@ ghost use Rattle.engine.specs.Turns.{Improved, Raised, Risen, Worsened};
 use crate::faults::ScheduleFault;
 use crate::lists::{Need, need_under, step_up};
 use books::Book;
-use books::limits::MOST_FLOPS;
+use books::limits::{MOST_CHECKS, MOST_FLOPS};
 use period::Period;
 
 // The shortest period of a book, with its lowest assignment in the list. A list of another length than the number of flip-flops stays as it was.
@@ -85,6 +85,9 @@ impl Worst {
 fn raise<B: Book>(book: &B) -> Best
     ensures { Raised (B.meaning book.now) (fraction result.period) result.domains }
 {
+    // Asked once: a kind of book may have to look for its answer.
+    let floor = book.floor();
+    let count = book.domains();
     let mut current = [0; MOST_FLOPS];
     let mut best = Best {
         period: Period::longest(),
@@ -93,16 +96,16 @@ fn raise<B: Book>(book: &B) -> Best
     // A rule of the project: the loop breaks, with the best, from inside the scan for a worst check. The scan goes by place, since a book has no iterator.
     'raise: loop {
         let mut worst = Worst {
-            period: book.floor(),
+            period: floor,
             end: None,
         };
         // At the place past the last check there is no need, and the scan is over.
-        for place in 0..=book.checks() {
+        for place in 0..=MOST_CHECKS {
             match need_under(book, place, &current) {
                 Some(need) => worst.worsen(need),
                 None => {
                     best.improve(worst.period, &current);
-                    if !worst.rise(&mut current, book.domains()) {
+                    if !worst.rise(&mut current, count) {
                         break 'raise best;
                     }
                     continue 'raise;

@@ -8,6 +8,7 @@ ghost use Rattle.engine.specs.Passes.{Passed, Tried};
 use crate::faults::SettleFault;
 use crate::lists::{need_under, step_up};
 use books::Book;
+use books::limits::MOST_CHECKS;
 use period::Period;
 
 // The period that two numbers name, with the lowest assignment that meets it in the list; all zeros where none meets it. A list of another
@@ -53,8 +54,8 @@ fn pass<B: Book>(book: &B, period: Period, domains: &mut [u8]) -> Result<bool, S
 {
     let count = book.domains();
     let mut raised = false;
-    for place in 0..book.checks() {
-        // At each place below the count there is a check; a book has no iterator over them.
+    // No book has more checks, and past its last there is no need; it has no iterator over them.
+    for place in 0..MOST_CHECKS {
         let Some(need) = need_under(book, place, domains) else {
             break;
         };

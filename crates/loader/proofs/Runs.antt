@@ -23,22 +23,22 @@ use Rattle.loader.specs.Load.{with_line, Refusing, TextRead}
 use Rattle.loader.proofs.Feeds.{held_short}
 
 -- a line that was taken
-run_on : (s t : State) (n : ℕ) (line : List ℕ) (more : List (List ℕ)) → step s line ≡ Ok t → run s n (line ∷ more) ≡ run t (n + 1) more
+pub run_on : (s t : State) (n : ℕ) (line : List ℕ) (more : List (List ℕ)) → step s line ≡ Ok t → run s n (line ∷ more) ≡ run t (n + 1) more
 run_on s t n line more e = ap (λ r. onward r n (λ u. run u (n + 1) more)) e
 
 -- a line that was not
-run_off : (s : State) (g : Ground) (n : ℕ) (line : List ℕ) (more : List (List ℕ)) → step s line ≡ Err g → run s n (line ∷ more) ≡ refused (number_of g) n
+pub run_off : (s : State) (g : Ground) (n : ℕ) (line : List ℕ) (more : List (List ℕ)) → step s line ≡ Err g → run s n (line ∷ more) ≡ refused (number_of g) n
 run_off s g n line more e = ap (λ r. onward r n (λ u. run u (n + 1) more)) e
 
 -- no line is left
-run_done : (s : State) (n : ℕ) → s.reached ≡ 5 → run s n [] ≡ accepted s.circuit
+pub run_done : (s : State) (n : ℕ) → s.reached ≡ 5 → run s n [] ≡ accepted s.circuit
 run_done s n e = cond-true (eqb s.reached 5) (accepted s.circuit) (refused (number_of Order) n) (eq-eqb s.reached 5 e)
 
-run_short : (s : State) (n : ℕ) → (s.reached ≡ 5 → ⊥) → run s n [] ≡ refused (number_of Order) n
+pub run_short : (s : State) (n : ℕ) → (s.reached ≡ 5 → ⊥) → run s n [] ≡ refused (number_of Order) n
 run_short s n h = cond-false (eqb s.reached 5) (accepted s.circuit) (refused (number_of Order) n) (ne_eqb s.reached 5 h)
 
 -- a line that was taken has at least a digit and a line feed
-taken_long : (s t : State) (line : List ℕ) → step s line ≡ Ok t → 2 ≤ length line
+pub taken_long : (s t : State) (line : List ℕ) → step s line ≡ Ok t → 2 ≤ length line
 taken_long s t line e =
     ⊎_elim (λ l. cc (ap (spelt s) (held_short line l))) (λ h. h) (cases_lt (length line) 2)
 
@@ -83,7 +83,7 @@ spelt_covered s t None e r = cc
 spelt_covered s t (Some bytes) e r = framed_covered s t (parsed bytes) e r
 
 -- past the end no gate is open
-taken_covered : (s t : State) (line : List ℕ) → step s line ≡ Ok t → t.reached ≡ 5 → Covered t.circuit
+pub taken_covered : (s t : State) (line : List ℕ) → step s line ≡ Ok t → t.reached ≡ 5 → Covered t.circuit
 taken_covered s t line e r = spelt_covered s t (held line) e r
 
 -- the reading of a text has come to the lines that are left

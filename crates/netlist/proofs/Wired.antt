@@ -1,4 +1,4 @@
--- What keeps the wires of a draft between places that exist.
+-- What keeps the counts of a draft, and its wires between places that exist.
 use Rattle.std.proofs.Common.{◌≡◌, ℕ, ◌<◌, ◌≤◌, Bool, true, false, cond, List, [], ◌∷◌, ◌++◌, map, length, get_or, set, sym, ap, ◌∙◌, arith}
 use Rattle.std.proofs.lemmas.Grind.{common_steps}
 use Rattle.std.proofs.lemmas.List.{length-map, map-set, get_or-map}
@@ -15,6 +15,15 @@ use Rattle.netlist.specs.Figures.{flop_of, gate_of, wire_of}
 pushed_longer : {X Y : Type 0} (f : X → Y) (b : Bool) (xs : List X) (x : X) → length (map f xs) ≤ length (map f (cond b (xs ++ (x ∷ [])) xs))
 pushed_longer f true xs x = grind (arith, common_steps, length-map)
 pushed_longer f false xs x = grind (arith, common_steps, length-map)
+
+-- a table that had room stays within its limit
+pub few_pushed : {X Y : Type 0} (f : X → Y) (b : Bool) (xs : List X) (x : X) (most : ℕ) → length xs < most → length (map f (cond b (xs ++ (x ∷ [])) xs)) ≤ most
+few_pushed f true xs x most room = grind (arith, common_steps, length-map)
+few_pushed f false xs x most room = grind (arith, common_steps, length-map)
+
+-- and so does one that takes an element back
+pub few_set : {X Y : Type 0} (f : X → Y) (xs : List X) (n : ℕ) (x : X) (most : ℕ) → length (map f xs) ≤ most → length (map f (set xs n x)) ≤ most
+few_set f xs n x most few = grind (arith, common_steps, length-map)
 
 pub wired_push_flop : (b : Bool) (flops : List FlipFlop) (f : FlipFlop) (gates : ℕ) (wires : List Wire)
     → every (runs (length (map flop_of flops)) gates) wires ≡ true → every (runs (length (map flop_of (cond b (flops ++ (f ∷ [])) flops))) gates) wires ≡ true

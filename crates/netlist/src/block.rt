@@ -1,5 +1,7 @@
 // A circuit block. No block that breaks a limit or leaves a gate open can exist.
 ghost use Rattle.std.specs.Prelude.{◌≡◌, ◌≤◌, map, length};
+ghost use Rattle.std.specs.List.{slice_get};
+ghost use Rattle.std.specs.Option.{option_map};
 ghost use Rattle.circuit.specs.Circuit.{empty};
 ghost use Rattle.circuit.specs.Limits.{most_flops, most_gates, most_wires};
 ghost use Rattle.circuit.specs.Sound.{Fed, Drained};
@@ -75,6 +77,27 @@ impl Block {
         ensures few { length result.now ≤ most_wires }
     {
         self.draft.wires.as_slice()
+    }
+
+    // The flip-flop of this number, or none beyond the last.
+    pub fn flip_flop(&self, number: usize) -> Option<FlipFlop>
+        ensures { option_map flop_of result ≡ slice_get (circuit self.now).flops number }
+    {
+        self.flip_flops().get(number).copied()
+    }
+
+    // The gate of this number, or none beyond the last.
+    pub fn gate(&self, number: usize) -> Option<Gate>
+        ensures { option_map gate_of result ≡ slice_get (circuit self.now).gates number }
+    {
+        self.gates().get(number).copied()
+    }
+
+    // The wire of this number, or none beyond the last.
+    pub fn wire(&self, number: usize) -> Option<Wire>
+        ensures { option_map wire_of result ≡ slice_get (circuit self.now).wires number }
+    {
+        self.wires().get(number).copied()
     }
 
     // The three changes, as in the draft: each takes figures of its own.

@@ -19,7 +19,7 @@ mapped_twice f g (Some x) i = Some (f (g x))
 mapped_twice f g None i = None
 
 -- an element that was read, mapped
-mapped_read : {X Y : Type 0} (f : X → Y) (xs : List X) (d : Y) (k : ℕ) (x : X) → k < length xs → x ≡ get_or xs k x → get_or (map f xs) k d ≡ f x
+pub mapped_read : {X Y : Type 0} (f : X → Y) (xs : List X) (d : Y) (k : ℕ) (x : X) → k < length xs → x ≡ get_or xs k x → get_or (map f xs) k d ≡ f x
 mapped_read f xs d k x l e = get_or-map f xs k x d l ∙ ap f (sym e)
 
 -- the check at a place

@@ -60,6 +60,24 @@ fn check_each<N: Debug, E, F: PartialEq + Debug + Copy, G: Fn(&E) -> F>(
     }
 }
 
+// What is told of one kind of element by number: each with its figures, and none beyond them.
+fn check_numbers<N: Debug, F: PartialEq + Debug + Copy, R: Fn(usize) -> Option<F>>(
+    rt: &impl Abort,
+    name: &N,
+    read: R,
+    expected: &[F],
+    most: usize,
+)
+    requires { R.IsAlwaysCallable read }
+{
+    for (n, figures) in expected.iter().enumerate() {
+        assert_eq!(rt; read(n), Some(*figures), "{name:?}: {n}");
+    }
+    for n in [expected.len(), most, usize::MAX] {
+        assert!(rt; read(n).is_none(), "{name:?}: {n}");
+    }
+}
+
 // The block of a case of this name holds these figures.
 pub fn check_block<N: Debug>(rt: &impl Abort, name: &N, block: &Block, figures: Figures) {
     assert_eq!(rt; block.parts(), figures.parts, "{name:?}: parts");
@@ -92,6 +110,27 @@ pub fn check_block<N: Debug>(rt: &impl Abort, name: &N, block: &Block, figures: 
         &(name, "wires"),
         block.wires(),
         wire_figures,
+        figures.wires,
+        MOST_WIRES,
+    );
+    check_numbers(
+        rt,
+        &(name, "flip-flop"),
+        |n| Some(flop_figures(&block.flip_flop(n)?)),
+        figures.flops,
+        MOST_FLIP_FLOPS,
+    );
+    check_numbers(
+        rt,
+        &(name, "gate"),
+        |n| Some(gate_figures(&block.gate(n)?)),
+        figures.gates,
+        MOST_GATES,
+    );
+    check_numbers(
+        rt,
+        &(name, "wire"),
+        |n| Some(wire_figures(&block.wire(n)?)),
         figures.wires,
         MOST_WIRES,
     );

@@ -44,7 +44,7 @@ impl Draft {
         Ok(())
     }
 
-    #[tactic(auto, using(crate::proofs::Wired::wired_push_flop))]
+    #[tactic(auto, using(crate::proofs::Wired::few_pushed, crate::proofs::Wired::wired_push_flop))]
     pub fn add_flip_flop(&mut self, setup: u16, hold: i16) -> Result<(), BlockFault>
         ensures { AddFlopCall (drafted self.old) setup hold result (drafted self.new) }
     {

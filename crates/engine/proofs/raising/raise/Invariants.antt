@@ -1,4 +1,4 @@
-use Rattle.std.proofs.Common.{◌≡◌}
+use Rattle.std.proofs.Common.{◌≡◌, ◌≤◌, length}
 use Rattle.checks.specs.Raises.{room}
 use Rattle.checks.proofs.Raising.{Raising, Scanned}
 use Rattle.period.specs.Periods.{fraction}
@@ -10,9 +10,10 @@ invariant-raise g l = Raising (g.B.Book.meaning l.book) l.current l.best.domains
 abbrev pub decreases-raise : goal.decreases-raise
 decreases-raise g l = room l.current
 
--- the scan leaves the list and the best as they are
+-- the scan leaves the list and the best as they are, and found a check at each place so far
 abbrev pub invariant-loop-place : goal.invariant-loop-place
 invariant-loop-place g l = record {
+  found : l.place ≤ length (g.B.Book.meaning l.book).checks;
   unmoved : l.current ≡ l.initial.current;
   raising : Raising (g.B.Book.meaning l.book) l.current l.best.domains (fraction l.best.period);
   scanned : Scanned (g.B.Book.meaning l.book) l.current l.place (fraction l.worst.period) l.worst.end;

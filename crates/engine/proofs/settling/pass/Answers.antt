@@ -16,4 +16,4 @@ returns-then-not-step_up g c =
     (refl, pass_stuck c.step_up.new.domains (g.met.B.Book.sound c.args.book.now) c.args.period.parted c.loop-place.invariant.settling c.in-Some.ensures (gt_true _ _ _ c.gt.ensures c.if-gt.true) c.domains-count.ensures c.if-not-step_up.ensures)
 
 pub returns-after-loop-place : goal.returns-after-loop-place
-returns-after-loop-place g c = pass_ends c.loop-place.raised (omega (arith, c.checks-place-end.ensures)) c.loop-place.invariant
+returns-after-loop-place g c = pass_ends c.loop-place.raised (omega (arith, (g.met.B.Book.sound c.args.book.now).few_checks)) c.loop-place.invariant

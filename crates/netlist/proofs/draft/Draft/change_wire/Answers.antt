@@ -1,12 +1,13 @@
 use Rattle.std.proofs.Common.{◌<◌, map, length, set, sym, refl, ap, ◌∙◌, arith}
 use Rattle.std.proofs.lemmas.Grind.{common_steps}
 use Rattle.std.proofs.lemmas.List.{length-map, map-set, get_or-map}
+use Rattle.circuit.specs.Limits.{most_wires}
 use Rattle.circuit.specs.Circuit.{with_wires}
 use Rattle.circuit.specs.Sound.{runs}
 use Rattle.netlist.specs.Figures.{wire_of}
 use Rattle.netlist.specs.Drafted.{drafted}
 use Rattle.netlist.proofs.Answered.{answers_missing, answers_made}
-use Rattle.netlist.proofs.Wired.{wired_set}
+use Rattle.netlist.proofs.Wired.{few_set, wired_set}
 use Rattle.netlist.proofs.Delayed.{delayed_set}
 use Rattle.netlist.proofs.draft.Draft.change_wire.Goals as goal
 
@@ -24,6 +25,9 @@ invariant_of-self-2 c =
     let within : n < length d.wires = c.lend.ensures.there.0 (sym c.in_ok-wire.ensures.variant) in
     let found = rw c.in_ok-wire.ensures.ok_part at c.lend.ensures.row in
     record {
+      few_flops = d.few_flops;
+      few_gates = d.few_gates;
+      few_wires = few_set wire_of d.wires n c.set_delay.new.self most_wires d.few_wires;
       wired = wired_set flops gates n d.wires c.in_ok-wire.wire.now c.set_delay.new.self within found (ap (runs flops gates) c.set_delay.ensures) d.wired;
     }
 
